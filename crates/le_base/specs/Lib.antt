@@ -1,0 +1,4 @@
+pub mod Code
+pub mod Memory
+pub mod Outside
+pub mod Stop
