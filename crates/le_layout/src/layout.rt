@@ -1,0 +1,29 @@
+ghost use Rattle.std.specs.Prelude.{◌≡◌, ◌<◌, length};
+ghost use Rattle.le_layout.specs.Layout.{IsLayout, token_text};
+
+use crate::{Lines, Tokens};
+use le_base::Text;
+
+/// A text with its tokens and its lines.
+#[derive(Debug, Drop)]
+pub struct Layout {
+    /// The text.
+    pub text: Text,
+    /// Its tokens, in order.
+    pub tokens: Tokens,
+    /// Its lines that have a token, in order.
+    pub lines: Lines,
+}
+
+impl Layout {
+    /// The text of the token with this number, counted from 0. The layout is a sound one and has the
+    /// token. It takes no memory.
+    pub fn word(&self, token: u32) -> &str
+        requires sound { IsLayout self.now }
+        requires inside { token < length self.now.tokens }
+        ensures { result.now ≡ token_text self.now token }
+    {
+        let token = self.tokens.as_slice()[token as usize];
+        &self.text.as_str()[token.from as usize..token.to as usize]
+    }
+}

@@ -1,0 +1,130 @@
+ghost use Rattle.std.specs.Prelude.{◌≡◌};
+
+use std::marker::Model;
+
+/// What a token is.
+#[derive(Clone, Copy, Debug, PartialEq, Eq)]
+pub enum Kind {
+    /// A word.
+    Word,
+    /// A quoted text.
+    Quote,
+    /// `[`.
+    Open,
+    /// `]`.
+    Close,
+    /// `|`.
+    Bar,
+    /// `,`.
+    Comma,
+    /// `:`.
+    Colon,
+    /// `*`.
+    Star,
+    /// A full stop.
+    Stop,
+}
+
+/// A token: what it is, its bytes in the text, and its place.
+#[derive(Clone, Copy, Debug)]
+pub struct Token {
+    /// What the token is.
+    pub kind: Kind,
+    /// Its first byte, counted from 0.
+    pub from: u32,
+    /// The place after its last byte.
+    pub to: u32,
+    /// The number of its line, from 1.
+    pub line: u32,
+    /// The column of its first character, from 1.
+    pub column: u32,
+}
+
+/// A line that has a token.
+#[derive(Clone, Copy, Debug)]
+pub struct Line {
+    /// Its number among all lines of the text, from 1.
+    pub number: u32,
+    /// The column of its first token, from 0.
+    pub indent: u32,
+    /// Its first token, counted from 0.
+    pub from: u32,
+    /// The place after its last token.
+    pub to: u32,
+}
+
+/// The tokens of a text, in order, which contracts see as a list.
+#[derive(Debug, Drop)]
+pub struct Tokens {
+    items: Vec<Token>,
+}
+
+impl Model for Tokens {
+    ghost use Rattle.std.specs.Prelude.{List};
+    ghost use Rattle.le_layout.specs.declared.token.Token.{Token};
+
+    ghost Value = { List Token };
+
+    ghost view = { λ t. t.items.items };
+}
+
+impl Tokens {
+    /// The tokens of a vector. It takes no memory.
+    pub fn from_vec(items: Vec<Token>) -> Self
+        ensures { result ≡ items.items }
+    {
+        Tokens { items }
+    }
+
+    /// The vector of the tokens. It takes no memory.
+    pub fn into_vec(self) -> Vec<Token>
+        ensures { result.items ≡ self }
+    {
+        self.items
+    }
+
+    /// The tokens, borrowed. It takes no memory.
+    pub fn as_slice(&self) -> &[Token]
+        ensures { result.now ≡ self.now }
+    {
+        self.items.as_slice()
+    }
+}
+
+/// The lines of a text that have a token, in order, which contracts see as a list.
+#[derive(Debug, Drop)]
+pub struct Lines {
+    items: Vec<Line>,
+}
+
+impl Model for Lines {
+    ghost use Rattle.std.specs.Prelude.{List};
+    ghost use Rattle.le_layout.specs.declared.token.Line.{Line};
+
+    ghost Value = { List Line };
+
+    ghost view = { λ l. l.items.items };
+}
+
+impl Lines {
+    /// The lines of a vector. It takes no memory.
+    pub fn from_vec(items: Vec<Line>) -> Self
+        ensures { result ≡ items.items }
+    {
+        Lines { items }
+    }
+
+    /// The vector of the lines. It takes no memory.
+    pub fn into_vec(self) -> Vec<Line>
+        ensures { result.items ≡ self }
+    {
+        self.items
+    }
+
+    /// The lines, borrowed. It takes no memory.
+    pub fn as_slice(&self) -> &[Line]
+        ensures { result.now ≡ self.now }
+    {
+        self.items.as_slice()
+    }
+}
