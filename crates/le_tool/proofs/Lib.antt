@@ -1,0 +1,4 @@
+pub mod GrammarLemmas
+pub mod AnswerLemmas
+pub mod FitLemmas
+pub mod ReportLemmas

@@ -1,0 +1,4 @@
+pub mod Grammar
+pub mod Job
+pub mod Answers
+pub mod Report
