@@ -1,28 +1,17 @@
 -- The laws of readings with one token in each slot, and the steps of the walk that finds them.
-use Rattle.std.proofs.Common.{◌≡◌, ℕ, suc, ◌+◌, ◌-◌, ◌<◌, ◌≤◌, Bool, true, false, cond, List, [], ◌∷◌, ◌++◌, length, get_or, take, drop, slice_range, Option, None, Some, Result, Ok, Err, Vec, Global, sym, refl, ap, ◌∙◌, subst, arith, append_assoc, IfOk, IfSome, IfNone}
+use Rattle.std.proofs.Common.{◌≡◌, ℕ, ◌+◌, ◌-◌, ◌<◌, ◌≤◌, Bool, true, false, cond, List, [], ◌∷◌, ◌++◌, length, get_or, drop, slice_range, Option, None, Some, Result, Ok, Err, Vec, Global, sym, refl, ap, ◌∙◌, subst, arith, append_assoc, IfOk, IfSome, IfNone}
 use Rattle.std.specs.Option.{option_map}
 use Rattle.std.specs.List.{All, AllByRecursion}
 use Rattle.std.proofs.lemmas.List.Elements.{All-from_recursion}
 use Rattle.std.specs.declared.alloc.AllocError.{AllocError}
-use Rattle.std.proofs.lemmas.List.{drop_more, length-drop, length-take, append-nil}
+use Rattle.std.proofs.lemmas.List.{length-drop, length-take, append-nil}
 use mathlib.Core.Bool.{not}
 use Rattle.le_base.specs.declared.stop.Span.{Span}
 use Rattle.le_layout.specs.declared.token.Kind.TheVariants.{Word}
 use Rattle.le_layout.specs.declared.token.Token.{Token}
 use Rattle.le_layout.specs.declared.layout.Layout.{Layout}
+use Rattle.le_match.proofs.SpanLemmas.{slice_more, slice_none, none_some, some_is}
 use Rattle.le_match.specs.Reading.{Part, word, slot, IsSlot, text_of, same_word, is_star, parts_from, parts_of, tokens_of, Reads, slot_spans, single_slots, slots_of}
-
--- ---- spans of a list
-
--- a span that isn't empty is its first item and the rest
-slice_more : {X : Type 0} (xs : List X) (at to : ℕ) (d : X) → at < to → to ≤ length xs → slice_range xs at to ≡ get_or xs at d ∷ slice_range xs (at + 1) to
-slice_more xs at to d low high =
-    let e : to - at ≡ suc (to - (at + 1)) = omega arith in
-    ap (λ n. take n (drop at xs)) e ∙ ap (take (suc (to - (at + 1)))) (drop_more xs at d (omega arith))
-
--- an empty span
-pub slice_none : {X : Type 0} (xs : List X) (at to : ℕ) → to ≤ at → slice_range xs at to ≡ []
-slice_none xs at to h = let e : to - at ≡ 0 = omega arith in ap (λ n. take n (drop at xs)) e
 
 -- ---- steps of the walk: the next token of the template, and the next of the sentence
 
@@ -150,12 +139,6 @@ reads_long l (word w ∷ parts) (t ∷ ts) lengths h = omega (arith, reads_long 
 reads_long l (slot ∷ parts) [] [] h = absurd h
 reads_long l (slot ∷ parts) (t ∷ ts) [] h = absurd h
 reads_long l (slot ∷ parts) ts (n ∷ lengths) h = omega (arith, h.0, h.1, reads_long l parts (drop n ts) lengths h.2, length-drop n ts)
-
-none_some : {X : Type 0} {x : X} → (let none : Option X = None in none ≡ Some x) → ⊥
-none_some e = cc
-
-some_is : {X : Type 0} {x y : X} → Some x ≡ Some y → x ≡ y
-some_is e = cc
 
 -- a reading of the parts with these lengths, and the spans that it gives
 abbrev Read : Layout → ℕ → List Part → List Token → List Span → Type 0

@@ -10,15 +10,10 @@ use Rattle.le_layout.specs.declared.token.Kind.TheVariants.{Word, Quote, Open, C
 use Rattle.le_layout.specs.declared.token.Token.{Token}
 use Rattle.le_layout.specs.declared.token.Line.{Line}
 use Rattle.le_layout.specs.declared.layout.Layout.{Layout}
+use Rattle.le_match.proofs.SpanLemmas.{none_some, some_is}
 use Rattle.le_match.specs.Reading.{word, slot, is_star, is_word, text_of, parts_from, parts_of, tokens_of}
 use Rattle.le_tool.specs.Grammar.{Shape, with_word, with_slot, template_shape, slot_article, slot_word, slot_end, is_free_word, is_article, line_at, front_of, fact_lines, query_line, is_stopped, is_sentence_line, is_template_shape, most_words, line_shape, sentences_fit}
 use Rattle.le_tool.specs.Answers.{FitsTemplate}
-
-none_some : {X : Type 0} {x : X} → (let none : Option X = None in none ≡ Some x) → ⊥
-none_some e = cc
-
-some_is : {X : Type 0} {x y : X} → Some x ≡ Some y → x ≡ y
-some_is e = cc
 
 and_left : (a b : Bool) → a && b ≡ true → a ≡ true
 and_left true b e = refl

@@ -1,24 +1,15 @@
 -- Steps of the walks over the tokens of a line.
-use Rattle.std.proofs.Common.{◌≡◌, ℕ, suc, ◌+◌, ◌-◌, ◌<◌, ◌≤◌, Bool, true, false, cond, List, [], ◌∷◌, length, get_or, take, drop, slice_range, Option, None, Some, sym, refl, ap, ◌∙◌, arith, nat_le, ◌&&◌}
+use Rattle.std.proofs.Common.{◌≡◌, ℕ, ◌+◌, ◌-◌, ◌<◌, ◌≤◌, Bool, true, false, cond, List, [], ◌∷◌, length, get_or, drop, slice_range, Option, None, Some, sym, refl, ap, ◌∙◌, arith, nat_le, ◌&&◌}
 use Rattle.std.specs.Option.{option_map}
 use Rattle.std.specs.List.{list_all}
-use Rattle.std.proofs.lemmas.List.{drop_more, length-take}
+use Rattle.std.proofs.lemmas.List.{length-take}
 use Rattle.std.proofs.lemmas.Bool.{leb-true, leb-false}
 use Rattle.le_layout.specs.declared.token.Kind.TheVariants.{Word}
 use Rattle.le_layout.specs.declared.token.Token.{Token}
 use Rattle.le_layout.specs.declared.layout.Layout.{Layout}
+use Rattle.le_match.proofs.SpanLemmas.{slice_more}
 use Rattle.le_match.specs.Reading.{is_star}
 use Rattle.le_tool.specs.Grammar.{Shape, with_word, with_slot, template_shape, slot_article, is_free_word, is_article, is_slot_at, token_at}
-
--- a span that isn't empty is its first item and the rest
-pub slice_more : {X : Type 0} (xs : List X) (at to : ℕ) (d : X) → at < to → to ≤ length xs → slice_range xs at to ≡ get_or xs at d ∷ slice_range xs (at + 1) to
-slice_more xs at to d low high =
-    let e : to - at ≡ suc (to - (at + 1)) = omega arith in
-    ap (λ n. take n (drop at xs)) e ∙ ap (take (suc (to - (at + 1)))) (drop_more xs at d (omega arith))
-
--- an empty span
-pub slice_none : {X : Type 0} (xs : List X) (at to : ℕ) → to ≤ at → slice_range xs at to ≡ []
-slice_none xs at to h = let e : to - at ≡ 0 = omega arith in ap (λ n. take n (drop at xs)) e
 
 -- the shape with what was counted before
 abbrev pub counted : ℕ → ℕ → Option Shape → Option Shape
