@@ -1,0 +1,4 @@
+pub mod Compute
+pub mod Lists
+pub mod Numbers
+pub mod Sentences
