@@ -1,0 +1,13 @@
+pub mod Among
+pub mod Bindings
+pub mod Covers
+pub mod Examples
+pub mod Induction
+pub mod Lookups
+pub mod Mgu
+pub mod Moves
+pub mod Parting
+pub mod Replacing
+pub mod SideLists
+pub mod SymbolLists
+pub mod Walk

@@ -1,0 +1,4 @@
+pub mod Solution
+pub mod Steps
+pub mod Symbols
+pub mod Unifiers

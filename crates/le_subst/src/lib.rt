@@ -1,0 +1,11 @@
+//! Substitutions, and the most general unifier of equations between terms.
+#![tactic(auto)]
+
+mod solving;
+mod substitution;
+mod symbols;
+#[cfg(test)]
+mod tests;
+
+pub use solving::solve;
+pub use substitution::Subst;
