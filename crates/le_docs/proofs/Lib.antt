@@ -1,0 +1,5 @@
+pub mod CutLemmas
+pub mod Examples
+pub mod HeaderLemmas
+pub mod SectionLemmas
+pub mod SpanLemmas

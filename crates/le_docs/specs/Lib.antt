@@ -1,0 +1,6 @@
+pub mod Bounds
+pub mod Cuts
+pub mod Faults
+pub mod Headers
+pub mod Kinds
+pub mod Sections

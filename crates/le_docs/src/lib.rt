@@ -1,0 +1,13 @@
+//! The sections of a document, and the sentences of each.
+#![tactic(auto)]
+
+mod cutting;
+mod dividing;
+mod doc;
+mod faults;
+mod headers;
+#[cfg(test)]
+mod tests;
+
+pub use dividing::sections;
+pub use doc::{Doc, Section, SectionKind, Sections, Spans};
