@@ -1,0 +1,5 @@
+pub mod FormLemmas
+pub mod SkeletonLemmas
+pub mod TextLemmas
+pub mod TableLemmas
+mod Examples

@@ -1,0 +1,5 @@
+pub mod Form
+pub mod Skeletons
+pub mod Table
+pub mod Walks
+pub mod Written
