@@ -1,4 +1,7 @@
-ghost use Rattle.std.specs.Prelude.{◌≡◌, ℕ, List, Option, None, ◌<◌, ◌≤◌, length, IfSome};
+ghost use Rattle.std.specs.Io.KnownBytes.{Appends};
+ghost use Rattle.le_base.specs.Outside.{Reads, Writes, Rose};
+ghost use Rattle.le.specs.Streams.{GivesRead, TakesWrite};
+ghost use Rattle.std.specs.Prelude.{◌≡◌, ℕ, List, Option, None, ◌<◌, ◌≤◌, length, take, IfSome};
 
 use le_base::{Got, Sink, Source, Took};
 use std::io::{Read, Write};
@@ -24,7 +27,15 @@ impl<R: Read> Source for StreamSource<R> {
 
     ghost left = { λ _. None };
 
-    fn read(&mut self, buffer: &mut [u8]) -> Got {
+    /// Hands on what the stream gives. Where the stream tells its bytes, they are those of a read: so the
+    /// end is answered only where nothing is left.
+    fn read(&mut self, buffer: &mut [u8]) -> Got
+        requires { 0 < length buffer.old }
+        ensures content { Reads None None result buffer.new }
+        ensures failed { result ≡ Got.Failed → Rose self.old.faults self.new.faults }
+        ensures count { self.old.faults ≤ self.new.faults }
+        ensures given { GivesRead (R.remaining self.old.reader) (R.remaining self.new.reader) result buffer.new }
+    {
         match self.reader.read(buffer) {
             Ok(0) => Got::End,
             Ok(count) => Got::Bytes(count),
@@ -55,7 +66,8 @@ impl<W: Write> StreamSink<W> {
 
 /// Writes some of the bytes and flushes the stream, and says how many it took, at least one.
 fn write_some<W: Write>(writer: &mut W, bytes: &[u8]) -> Option<usize>
-    ensures { IfSome result (λ count. (0 < count) × (count ≤ length bytes.now)) }
+    ensures some { IfSome result (λ count. (0 < count) × (count ≤ length bytes.now)) }
+    ensures taken { IfSome result (λ count. Appends (W.contents writer.old) (W.contents writer.new) (take count bytes.now)) }
 {
     let count = writer.write(bytes).ok()?;
     writer.flush().ok()?;
@@ -67,7 +79,15 @@ impl<W: Write> Sink for StreamSink<W> {
 
     ghost written = { λ _. None };
 
-    fn write(&mut self, bytes: &[u8]) -> Took {
+    /// Hands on what the stream takes. Where the stream tells what was written, it has grown by the bytes
+    /// that were taken.
+    fn write(&mut self, bytes: &[u8]) -> Took
+        requires { 0 < length bytes.now }
+        ensures content { Writes None None result bytes.now }
+        ensures failed { result ≡ Took.Failed → Rose self.old.faults self.new.faults }
+        ensures count { self.old.faults ≤ self.new.faults }
+        ensures taken { TakesWrite (W.contents self.old.writer) (W.contents self.new.writer) result bytes.now }
+    {
         match write_some(&mut self.writer, bytes) {
             Some(count) => Took::Bytes(count),
             None => {
