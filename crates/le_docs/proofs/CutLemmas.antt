@@ -7,7 +7,7 @@ use Rattle.le_layout.specs.Layout.{no_token, token_text}
 use Rattle.le_docs.specs.Kinds.{ends_sentence}
 use Rattle.le_docs.specs.Cuts.{Parts, last, part, longer, parts_of, parts_in, some_at, spans_at, open_at}
 use Rattle.le_docs.specs.Sections.{spaced, joined}
-use Rattle.le_docs.proofs.SpanLemmas.{slice_more, slice_none}
+use Rattle.le_layout.proofs.SpanLemmas.{slice_more, slice_none}
 
 longer_longer : (n m : ℕ) (p : Parts) → m ≡ n + 1 → longer n (longer 1 p) ≡ longer m p
 longer_longer n m (last k) e = let h : n + (1 + k) ≡ m + k = omega arith in ap last h

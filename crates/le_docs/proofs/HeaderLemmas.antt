@@ -10,10 +10,10 @@ use Rattle.le_layout.specs.Layout.{no_token, IsLineOver}
 use Rattle.le_docs.specs.Bounds.{IsHeadOver}
 use Rattle.le_docs.specs.declared.faults.Fault.{Fault}
 use Rattle.le_docs.specs.declared.headers.Head.{Head}
-use Rattle.le_docs.specs.Kinds.{is_word, is_colon}
+use Rattle.le_layout.specs.Words.{is_word, is_colon}
 use Rattle.le_docs.specs.Faults.{sooner, least_from}
 use Rattle.le_docs.specs.Headers.{colon_from, first_colon, all_words, IsHeadIn, head_of, heads_of, line_faults, lines_faults}
-use Rattle.le_docs.proofs.SpanLemmas.{slice_more}
+use Rattle.le_layout.proofs.SpanLemmas.{slice_more}
 
 pub all_words_step : (l : Layout) (k to : ℕ) (b : Bool) → k < to → to ≤ length l.tokens → is_word (get_or l.tokens k no_token).kind ≡ b → all_words l k to ≡ (b && all_words l (k + 1) to)
 all_words_step l k to b low high e =

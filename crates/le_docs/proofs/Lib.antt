@@ -2,4 +2,3 @@ pub mod CutLemmas
 pub mod Examples
 pub mod HeaderLemmas
 pub mod SectionLemmas
-pub mod SpanLemmas

@@ -1,19 +1,16 @@
 -- The headers of a text: this project's profile.
-use Rattle.std.specs.Prelude.{◌≡◌, ℕ, ◌+◌, ◌-◌, ◌≤◌, ◌==◌, ◌&&◌, Bool, if◌then◌else◌, nat_lt, nat_le, List, [], ◌∷◌, ◌++◌, map, codes, slice_range, slice_index_or, Option, None, Some, is_some}
+use Rattle.std.specs.Prelude.{◌≡◌, ℕ, ◌+◌, ◌-◌, ◌≤◌, ◌==◌, ◌&&◌, Bool, if◌then◌else◌, nat_lt, nat_le, List, [], ◌∷◌, ◌++◌, codes, slice_range, Option, None, Some, is_some}
 use Rattle.std.specs.Option.{option_to_list}
 use Rattle.std.specs.List.{list_all}
-use Rattle.std.specs.Char.{to_ascii_lowercase}
-use Rattle.std.specs.Str.{bytes_eq}
 use Rattle.le_base.specs.declared.code.Code.TheVariants.{UnknownHeader}
 use Rattle.le_layout.specs.declared.token.Token.{Token}
 use Rattle.le_layout.specs.declared.token.Line.{Line}
 use Rattle.le_layout.specs.declared.layout.Layout.{Layout}
-use Rattle.le_layout.specs.Layout.{no_token, token_text}
+use Rattle.le_layout.specs.Words.{is_word, is_colon, has_word}
 use Rattle.le_docs.specs.declared.doc.SectionKind.{SectionKind}
 use Rattle.le_docs.specs.declared.doc.SectionKind.TheVariants as kinds
 use Rattle.le_docs.specs.declared.faults.Fault.{Fault}
 use Rattle.le_docs.specs.declared.headers.Head.{Head}
-use Rattle.le_docs.specs.Kinds.{is_word, is_colon}
 use Rattle.le_docs.specs.Faults.{fault_at}
 
 -- the first colon of tokens that stand from this place on, or their end
@@ -24,10 +21,6 @@ colon_from at (t ∷ ts) = if is_colon t.kind then at else colon_from (at + 1) t
 -- the first colon among the tokens of a span, or its end
 abbrev pub first_colon : Layout → ℕ → ℕ → ℕ
 first_colon layout from to = colon_from from (slice_range layout.tokens from to)
-
--- whether the token with this number is this word, ASCII case ignored
-unfoldable pub has_word : Layout → ℕ → List ℕ → Bool
-has_word layout k word = is_word (slice_index_or layout.tokens k no_token).kind && bytes_eq (map to_ascii_lowercase (token_text layout k)) (map to_ascii_lowercase word)
 
 -- whether all tokens of a span are words
 abbrev pub all_words : Layout → ℕ → ℕ → Bool

@@ -1,5 +1,5 @@
 -- The sections of a layout: this project's profile.
-use Rattle.std.specs.Prelude.{ℕ, ◌+◌, ◌-◌, ◌==◌, ◌&&◌, Bool, not, if◌then◌else◌, List, [], ◌∷◌, ◌++◌, length, codes, slice_range, slice_index_or, Option, None, Some, Result, Ok, Err}
+use Rattle.std.specs.Prelude.{ℕ, ◌+◌, ◌-◌, ◌==◌, ◌&&◌, Bool, not, if◌then◌else◌, List, [], ◌∷◌, ◌++◌, length, codes, Option, None, Some, Result, Ok, Err}
 use Rattle.std.specs.List.{list_any}
 use Rattle.std.specs.Str.{bytes_eq}
 use Rattle.le_base.specs.declared.code.Code.TheVariants.{UnknownHeader, NoStop, SameName}
@@ -8,21 +8,17 @@ use Rattle.le_base.specs.declared.stop.Refusal.{Refusal}
 use Rattle.le_base.specs.Stop.{refusal_at}
 use Rattle.le_layout.specs.declared.token.Token.{Token}
 use Rattle.le_layout.specs.declared.layout.Layout.{Layout}
-use Rattle.le_layout.specs.Layout.{no_token}
+use Rattle.le_layout.specs.Words.{text_of, tokens_of, token_of, is_stop, has_word}
 use Rattle.le_docs.specs.declared.doc.SectionKind.{SectionKind}
 use Rattle.le_docs.specs.declared.doc.SectionKind.TheVariants as kinds
 use Rattle.le_docs.specs.declared.doc.Section.{Section}
 use Rattle.le_docs.specs.declared.doc.Doc.{Doc}
 use Rattle.le_docs.specs.declared.faults.Fault.{Fault}
 use Rattle.le_docs.specs.declared.headers.Head.{Head}
-use Rattle.le_docs.specs.Kinds.{same_kind, is_stop}
+use Rattle.le_docs.specs.Kinds.{same_kind}
 use Rattle.le_docs.specs.Faults.{fault_at, least_from}
-use Rattle.le_docs.specs.Headers.{has_word, heads_of, lines_faults, first_faults}
+use Rattle.le_docs.specs.Headers.{heads_of, lines_faults, first_faults}
 use Rattle.le_docs.specs.Cuts.{Parts, parts_in, spans_at, open_at}
-
--- the text of a token
-abbrev pub text_of : Layout → Token → List ℕ
-text_of layout t = slice_range layout.text t.from t.to
 
 -- words with a space before each
 unfoldable pub spaced : Layout → List Token → List ℕ
@@ -36,7 +32,7 @@ joined layout (t ∷ ts) = text_of layout t ++ spaced layout ts
 
 -- the words of a span joined by one space
 abbrev pub name_of : Layout → Span → List ℕ
-name_of layout span = joined layout (slice_range layout.tokens span.from span.to)
+name_of layout span = joined layout (tokens_of layout span)
 
 -- the parts of the section of this header, which ends here; a comma ends a template
 abbrev pub parts_under : Layout → Head → ℕ → Parts
@@ -48,7 +44,7 @@ section_at layout head to = record { kind = head.kind; name = name_of layout hea
 
 -- whether the tokens of a span are `prolog` and a full stop
 abbrev pub is_prolog : Layout → ℕ → ℕ → Bool
-is_prolog layout from to = (to - from == 2) && (has_word layout from (codes "prolog") && is_stop (slice_index_or layout.tokens (from + 1) no_token).kind)
+is_prolog layout from to = (to - from == 2) && (has_word layout from (codes "prolog") && is_stop (token_of layout (from + 1)).kind)
 
 -- a target is nothing but `prolog` and a full stop
 abbrev pub target_faults : Layout → Head → ℕ → List Fault

@@ -1,14 +1,14 @@
 ghost use Rattle.std.specs.Prelude.{◌≡◌, ◌<◌, ◌≤◌, length, All, IfOk};
 ghost use Rattle.std.specs.Option.{option_to_list};
 ghost use Rattle.le_layout.specs.Layout.{IsLayout};
-ghost use Rattle.le_docs.specs.Kinds.{ends_sentence as ends_sentence_of, is_stop as is_stop_kind};
+ghost use Rattle.le_docs.specs.Kinds.{ends_sentence as ends_sentence_of};
 ghost use Rattle.le_docs.specs.Faults.{least_from};
 ghost use Rattle.le_docs.specs.Bounds.{IsSentenceOver, IsSectionOver};
 ghost use Rattle.le_docs.specs.Cuts.{parts_in, spans_at, open_at};
 ghost use Rattle.le_docs.specs.Sections.{name_of as name_of_span, is_prolog as is_prolog_of, target_faults, open_faults, query_faults, parts_under, section_at, section_faults};
 
 use crate::faults::{Fault, fault_at, sooner};
-use crate::headers::{Head, has_word};
+use crate::headers::Head;
 use crate::{Section, SectionKind, Spans};
 use le_base::{Code, Span, Text};
 use le_layout::{Kind, Layout, Token};
@@ -87,8 +87,8 @@ fn is_prolog(layout: &Layout, from: u32, to: u32) -> bool
     ensures { result ≡ is_prolog_of layout.now from to }
 {
     to.saturating_sub(from) == 2
-        && has_word(layout, from, "prolog")
-        && is_stop(&layout.tokens.as_slice()[from as usize + 1])
+        && layout.has_word(from, "prolog")
+        && layout.token(from + 1).kind.is_stop()
 }
 
 /// The fault that decides, where a sentence isn't ended.
@@ -186,11 +186,4 @@ fn ends_sentence(commas: bool, token: &Token) -> bool
         Kind::Comma => commas,
         _ => false,
     }
-}
-
-/// Whether a token is a full stop.
-fn is_stop(token: &Token) -> bool
-    ensures { result ≡ is_stop_kind token.now.kind }
-{
-    matches!(token.kind, Kind::Stop)
 }

@@ -1,14 +1,13 @@
 ghost use Rattle.std.specs.Prelude.{◌≡◌, ◌+◌, ◌<◌, ◌≤◌, length, None, All, IfOk, IfSome};
 ghost use Rattle.le_layout.specs.Layout.{IsLayout, IsLineOver};
-ghost use Rattle.le_docs.specs.Kinds.{is_word as is_word_kind, is_colon as is_colon_kind};
 ghost use Rattle.le_docs.specs.Bounds.{IsHeadOver};
 ghost use Rattle.le_docs.specs.Faults.{least_from};
-ghost use Rattle.le_docs.specs.Headers.{first_colon as first_colon_of, has_word as has_word_of, all_words as all_words_of, is_target as is_target_of, is_templates as is_templates_of, opens_knowledge as opens_knowledge_of, is_knowledge as is_knowledge_of, is_named as is_named_of, head_in as head_in_of, head_of as head_of_line, IsHeadIn, heads_of, line_faults, lines_faults, first_faults};
+ghost use Rattle.le_docs.specs.Headers.{first_colon as first_colon_of, all_words as all_words_of, is_target as is_target_of, is_templates as is_templates_of, opens_knowledge as opens_knowledge_of, is_knowledge as is_knowledge_of, is_named as is_named_of, head_in as head_in_of, head_of as head_of_line, IsHeadIn, heads_of, line_faults, lines_faults, first_faults};
 
 use crate::SectionKind;
 use crate::faults::{Fault, fault_at, sooner};
 use le_base::{Code, Span};
-use le_layout::{Kind, Layout, Line, Token};
+use le_layout::{Layout, Line};
 use std::alloc::{AllocError, Global};
 
 /// A header.
@@ -146,10 +145,10 @@ fn is_target(layout: &Layout, from: u32, to: u32) -> bool
     ensures { result ≡ is_target_of layout.now from to }
 {
     to - from == 4
-        && has_word(layout, from, "the")
-        && has_word(layout, from + 1, "target")
-        && has_word(layout, from + 2, "language")
-        && has_word(layout, from + 3, "is")
+        && layout.has_word(from, "the")
+        && layout.has_word(from + 1, "target")
+        && layout.has_word(from + 2, "language")
+        && layout.has_word(from + 3, "is")
 }
 
 /// Whether these tokens are `the templates are`.
@@ -161,9 +160,9 @@ fn is_templates(layout: &Layout, from: u32, to: u32) -> bool
     ensures { result ≡ is_templates_of layout.now from to }
 {
     to - from == 3
-        && has_word(layout, from, "the")
-        && has_word(layout, from + 1, "templates")
-        && has_word(layout, from + 2, "are")
+        && layout.has_word(from, "the")
+        && layout.has_word(from + 1, "templates")
+        && layout.has_word(from + 2, "are")
 }
 
 /// Whether these tokens are `the knowledge base`, a name or none, and `includes`.
@@ -177,7 +176,7 @@ fn is_knowledge(layout: &Layout, from: u32, to: u32) -> bool
     4 <= to - from
         && to - from <= 16
         && opens_knowledge(layout, from)
-        && has_word(layout, to - 1, "includes")
+        && layout.has_word(to - 1, "includes")
         && all_words(layout, from + 3, to - 1)
 }
 
@@ -188,9 +187,9 @@ fn opens_knowledge(layout: &Layout, from: u32) -> bool
     requires inside { from + 3 ≤ length layout.now.tokens }
     ensures { result ≡ opens_knowledge_of layout.now from }
 {
-    has_word(layout, from, "the")
-        && has_word(layout, from + 1, "knowledge")
-        && has_word(layout, from + 2, "base")
+    layout.has_word(from, "the")
+        && layout.has_word(from + 1, "knowledge")
+        && layout.has_word(from + 2, "base")
 }
 
 /// Whether these tokens are this word, a name and `is`.
@@ -203,20 +202,9 @@ fn is_named(layout: &Layout, word: &str, from: u32, to: u32) -> bool
 {
     3 <= to - from
         && to - from <= 14
-        && has_word(layout, from, word)
-        && has_word(layout, to - 1, "is")
+        && layout.has_word(from, word)
+        && layout.has_word(to - 1, "is")
         && all_words(layout, from + 1, to - 1)
-}
-
-/// Whether a token is this word, ASCII case ignored.
-#[tactic(auto, unfolding(crate::specs::Headers::has_word))]
-pub fn has_word(layout: &Layout, token: u32, word: &str) -> bool
-    requires layout { IsLayout layout.now }
-    requires inside { token < length layout.now.tokens }
-    ensures { result ≡ has_word_of layout.now token word.now }
-{
-    is_word(&layout.tokens.as_slice()[token as usize])
-        && layout.word(token).eq_ignore_ascii_case(word)
 }
 
 /// Whether all of these tokens are words.
@@ -225,7 +213,7 @@ fn all_words(layout: &Layout, from: u32, to: u32) -> bool
     ensures { result ≡ all_words_of layout.now from to }
 {
     for k in from..to {
-        if !is_word(&layout.tokens.as_slice()[k as usize]) {
+        if !layout.token(k).kind.is_word() {
             return false;
         }
     }
@@ -241,23 +229,9 @@ fn first_colon(layout: &Layout, from: u32, to: u32) -> u32
     ensures high { result ≤ to }
 {
     for k in from..to {
-        if is_colon(&layout.tokens.as_slice()[k as usize]) {
+        if layout.token(k).kind.is_colon() {
             return k;
         }
     }
     to
-}
-
-/// Whether a token is a word.
-fn is_word(token: &Token) -> bool
-    ensures { result ≡ is_word_kind token.now.kind }
-{
-    matches!(token.kind, Kind::Word)
-}
-
-/// Whether a token is a colon.
-fn is_colon(token: &Token) -> bool
-    ensures { result ≡ is_colon_kind token.now.kind }
-{
-    matches!(token.kind, Kind::Colon)
 }

@@ -40,8 +40,17 @@ fn outcome(alloc: Global, text: &str) -> Result<String, AllocError> {
     }
 }
 
-const CASES: [(&str, &str); 28] = [
+const CASES: [(&str, &str); 31] = [
     ("", ""),
+    (
+        "the templates are: *a* is up, *a, b* is\n down,, *c*.\n",
+        "Templates  0: 4..9 10..12 13..17 19..22\n",
+    ),
+    (
+        "scenario it's a/b is:\n\"b. c: d\", e.\n",
+        "Scenario it's a/b 0: 5..8\n",
+    ),
+    ("scenario \"a\" is: b.\n", "UnknownHeader 1:1"),
     (
         "The Target language is: Prolog.\nthe templates are:\n*a* is up.\n. *a* is\n  down.\n",
         "Target  0: 5..6\nTemplates  7: 11..16 18..23\n",

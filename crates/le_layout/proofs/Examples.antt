@@ -1,47 +1,47 @@
 -- Worked examples of the definitions.
-use Rattle.std.proofs.Common.{◌≡◌, [], ◌∷◌, Some, None, Ok, Err, true, false, codes, refl}
-use Rattle.le_base.specs.declared.code.Code.TheVariants.{Unbuilt}
-use Rattle.le_base.specs.Stop.{refusal_at}
-use Rattle.le_layout.specs.declared.token.Kind.TheVariants as kinds
-use Rattle.le_layout.specs.Pieces.{kind_of, begins_with_letter, piece, pieces_of}
+use Rattle.std.proofs.Common.{◌≡◌, [], ◌∷◌, true, false, codes, refl}
+use Rattle.unicode_ident.proofs.Computing.{unicode_ident}
+use Rattle.le_layout.specs.declared.piece.Form.TheVariants as forms
+use Rattle.le_layout.specs.Characters.{is_ascii_sign, is_further_sign, is_word_character}
+use Rattle.le_layout.specs.Places.{next_place, place_behind}
 use Rattle.le_layout.specs.Lines.{lines_of}
-use Rattle.le_layout.specs.Layout.{tokens_at, rows_from, lines_from, layout_in, layout_of, is_read, is_built, begins_inner_stop, has_inner_stop}
+use Rattle.le_layout.specs.Pieces.{joins, goes_on, ends_line, piece, form_at, more_at, pieces_behind, pieces_of}
+use Rattle.le_layout.specs.Faults.{is_numeral, is_numerals, is_number_like, is_date_like}
 
--- a word goes on as far as letters do
-words : pieces_of (codes "Bob is.") ≡ piece (Some kinds.Word) (codes "Bob") ∷ piece None (codes " ") ∷ piece (Some kinds.Word) (codes "is") ∷ piece (Some kinds.Stop) (codes ".") ∷ []
-unfolding pieces_of kind_of begins_with_letter
-words = refl
-
--- an empty line is a line, and so is the text behind the last LF
-blank_lines : lines_of (97 ∷ 10 ∷ 10 ∷ 98 ∷ 10 ∷ []) ≡ (97 ∷ []) ∷ [] ∷ (98 ∷ []) ∷ [] ∷ []
+-- an empty line is a line, and the text behind the last LF is one where there is any
+blank_lines : lines_of (97 ∷ 10 ∷ 10 ∷ 98 ∷ 10 ∷ []) ≡ (97 ∷ 10 ∷ []) ∷ (10 ∷ []) ∷ (98 ∷ 10 ∷ []) ∷ []
 unfolding lines_of
 blank_lines = refl
 
--- `a`, an empty line, and ` b:`
-two_lines : layout_of (97 ∷ 10 ∷ 10 ∷ 32 ∷ 98 ∷ 58 ∷ []) ≡ Ok (record {
-  text = 97 ∷ 10 ∷ 10 ∷ 32 ∷ 98 ∷ 58 ∷ [];
-  tokens = record { kind = kinds.Word; from = 0; to = 1; line = 1; column = 1 }
-      ∷ record { kind = kinds.Word; from = 4; to = 5; line = 3; column = 2 }
-      ∷ record { kind = kinds.Colon; from = 5; to = 6; line = 3; column = 3 } ∷ [];
-  lines = record { number = 1; indent = 0; from = 0; to = 1 } ∷ record { number = 3; indent = 1; from = 1; to = 3 } ∷ [];
-})
-unfolding layout_of layout_in is_built is_read begins_inner_stop has_inner_stop lines_of rows_from lines_from tokens_at pieces_of kind_of begins_with_letter
-two_lines = refl
+-- a tab behind two characters leads to column 4, one behind four to column 8
+tabs : place_behind (record { byte = 0; line = 1; column = 2 }) (9 ∷ 9 ∷ []) ≡ record { byte = 2; line = 1; column = 8 }
+unfolding next_place
+tabs = refl
 
--- no token, no line
-nothing : layout_of [] ≡ Ok (record { text = []; tokens = []; lines = [] })
-unfolding layout_of layout_in is_built is_read begins_inner_stop has_inner_stop lines_of rows_from lines_from tokens_at pieces_of kind_of begins_with_letter
-nothing = refl
+-- `€` has three bytes and one column
+euro : place_behind (record { byte = 0; line = 1; column = 0 }) (8364 ∷ []) ≡ record { byte = 3; line = 1; column = 1 }
+unfolding next_place
+euro = refl
 
--- a full stop within a word, and after one
-inner_stop : layout_of (codes "Bob.Ann") ≡ Err (refusal_at Unbuilt 0 0)
-unfolding layout_of layout_in is_built is_read begins_inner_stop has_inner_stop
-inner_stop = refl
+-- numbers and dates by their look
+number : is_number_like (codes "-5.5,2") ≡ true
+unfolding is_number_like is_numerals is_numeral
+number = refl
 
-two_stops : is_built (codes "a..b") ≡ true
-unfolding is_built is_read begins_inner_stop has_inner_stop
-two_stops = refl
+version : is_number_like (codes "2024-01") ≡ false
+unfolding is_number_like is_numerals is_numeral
+version = refl
 
-digit : is_built (codes "thing 5") ≡ false
-unfolding is_built is_read begins_inner_stop has_inner_stop
-digit = refl
+date : is_date_like (codes "2024-02-30") ≡ true
+unfolding is_date_like
+date = refl
+
+-- a full stop between words joins them, one at the end doesn't
+word_then_stop : pieces_of (codes "a.b.") ≡ piece forms.Word (codes "a.b") ∷ piece forms.Single (codes ".") ∷ []
+unfolding pieces_behind form_at more_at is_word_character unicode_ident is_ascii_sign is_further_sign goes_on joins ends_line
+word_then_stop = refl
+
+-- a quoted text, a space, and a comment up to the line's end
+quote_then_comment : pieces_of (34 ∷ 97 ∷ 34 ∷ 32 ∷ 37 ∷ 98 ∷ 13 ∷ 10 ∷ []) ≡ piece forms.Quote (34 ∷ 97 ∷ 34 ∷ []) ∷ piece forms.Single (32 ∷ []) ∷ piece forms.Comment (37 ∷ 98 ∷ []) ∷ piece forms.LineEnd (13 ∷ 10 ∷ []) ∷ []
+unfolding pieces_behind form_at more_at is_word_character unicode_ident is_ascii_sign is_further_sign goes_on joins ends_line
+quote_then_comment = refl

@@ -1,121 +1,155 @@
--- What the pieces of a line are, and that a line has one cut.
-use Rattle.std.proofs.Common.{◌≡◌, ◌==◌, ◌⊎◌, ℕ, ◌<◌, true, false, cond, ◌&&◌, List, [], ◌∷◌, ◌++◌, length, Some, None, sym, refl, ap, ap₂, ◌∙◌, subst, inl, inr, ⊎_elim, arith}
-use Rattle.std.specs.List.{list_all}
-use Rattle.std.proofs.lemmas.Bool.{cases_Bool, cond-true, cond-false, and_parts, and_left, and_right, and_from, and_cases, both_ways}
-use Rattle.le_layout.specs.declared.token.Kind.TheVariants as kinds
-use Rattle.le_layout.specs.Pieces.{is_letter, kind_of, Piece, piece, text_of, begins_with_letter, onto_first, pieces_of, IsLongestWord, IsSingle, Cuts}
+-- The form of the first piece of a line, and the pieces behind it.
+use Rattle.std.proofs.Common.{◌≡◌, ◌==◌, ◌⊎◌, zero, ℕ, suc, ◌+◌, ◌<◌, ◌≤◌, true, false, cond, ◌||◌, List, [], ◌∷◌, length, take, drop, get_or, sym, refl, ap, ap₂, ◌∙◌, inl, inr, subst, ⊎_elim, arith}
+use Rattle.std.proofs.lemmas.Bool.{cases_Bool, cond-true, cond-false, eqb-true, ne_eqb, both_ways}
+use Rattle.std.proofs.lemmas.Bool.Decides.{nat_tests}
+use Rattle.unicode_ident.specs.Ident.{is_xid_continue}
+use Rattle.unicode_ident.proofs.IdentLemmas.{is_xid_continue-ascii}
+use Rattle.le_layout.specs.declared.piece.Form.{Form}
+use Rattle.le_layout.specs.declared.piece.Form.TheVariants as forms
+use Rattle.le_layout.specs.Characters.{is_ascii_sign, is_further_sign, is_word_character, begins_with}
+use Rattle.le_layout.specs.Pieces.{before_quote, has_quote, ends_line, form_at, more_at, piece, pieces_behind, pieces_of}
+use Rattle.le_layout.specs.Faults.{is_comment_form, begins_comment}
 
--- a letter belongs to a word
-pub kind_of-letter : (b : ℕ) → is_letter b ≡ true → kind_of b ≡ Some kinds.Word
-unfolding kind_of
-kind_of-letter b h = cond-true _ _ _ h
+-- the marks that begin other pieces stand in no word
+mark_no_word : (c : ℕ) → is_xid_continue c ≡ false → (is_ascii_sign c || is_further_sign c) ≡ false → is_word_character c ≡ false
+unfolding is_word_character
+mark_no_word c h k = ap (λ b. b || (is_ascii_sign c || is_further_sign c)) h ∙ k
 
--- no other character does
-pub kind_of-no_letter : (b : ℕ) → is_letter b ≡ false → kind_of b ≡ Some kinds.Word → ⊥
-unfolding kind_of
-kind_of-no_letter b h e =
-    let f : cond (b == 42) (Some kinds.Star) (cond (b == 58) (Some kinds.Colon) (cond (b == 46) (Some kinds.Stop) None)) ≡ Some kinds.Word = sym (cond-false _ _ _ h) ∙ e in
-    ⊎_elim (λ p. let g : Some kinds.Star ≡ Some kinds.Word = sym (cond-true _ _ _ p) ∙ f in cc)
-    (λ p. let f2 : cond (b == 58) (Some kinds.Colon) (cond (b == 46) (Some kinds.Stop) None) ≡ Some kinds.Word = sym (cond-false _ _ _ p) ∙ f in
-    ⊎_elim (λ q. let g : Some kinds.Colon ≡ Some kinds.Word = sym (cond-true _ _ _ q) ∙ f2 in cc)
-    (λ q. let f3 : cond (b == 46) (Some kinds.Stop) None ≡ Some kinds.Word = sym (cond-false _ _ _ q) ∙ f2 in
-    ⊎_elim (λ r. let g : Some kinds.Stop ≡ Some kinds.Word = sym (cond-true _ _ _ r) ∙ f3 in cc)
-    (λ r. let g : None ≡ Some kinds.Word = sym (cond-false _ _ _ r) ∙ f3 in cc)
-    (cases_Bool (b == 46)))
-    (cases_Bool (b == 58)))
-    (cases_Bool (b == 42))
+pub quote_no_word : is_word_character 34 ≡ false
+unfolding is_ascii_sign is_further_sign
+quote_no_word = mark_no_word 34 (is_xid_continue-ascii 34 (omega arith)) refl
 
--- the pieces of a line that begins with a letter before a letter
-pub pieces_of-joined : (b : ℕ) (bs : List ℕ) → is_letter b ≡ true → begins_with_letter bs ≡ true → pieces_of (b ∷ bs) ≡ onto_first b (pieces_of bs)
-unfolding pieces_of
-pieces_of-joined b bs h k = cond-true _ _ _ (and_from _ _ h k)
+pub percent_no_word : is_word_character 37 ≡ false
+unfolding is_ascii_sign is_further_sign
+percent_no_word = mark_no_word 37 (is_xid_continue-ascii 37 (omega arith)) refl
 
--- the pieces of any other line that isn't empty
-pub pieces_of-apart : (b : ℕ) (bs : List ℕ) → (is_letter b && begins_with_letter bs) ≡ false → pieces_of (b ∷ bs) ≡ piece (kind_of b) (b ∷ []) ∷ pieces_of bs
-unfolding pieces_of
-pieces_of-apart b bs h = cond-false _ _ _ h
+pub lf_no_word : is_word_character 10 ≡ false
+unfolding is_ascii_sign is_further_sign
+lf_no_word = mark_no_word 10 (is_xid_continue-ascii 10 (omega arith)) refl
+
+pub cr_no_word : is_word_character 13 ≡ false
+unfolding is_ascii_sign is_further_sign
+cr_no_word = mark_no_word 13 (is_xid_continue-ascii 13 (omega arith)) refl
+
+-- the form of a piece by the character that begins it
+pub form_at-word : (c : ℕ) (cs : List ℕ) → is_word_character c ≡ true → form_at c cs ≡ forms.Word
+unfolding form_at
+form_at-word c cs h = cond-true (is_word_character c) _ _ h
+
+pub form_at-quote : (cs : List ℕ) → form_at 34 cs ≡ cond (has_quote cs) forms.Quote forms.OpenQuote
+unfolding form_at
+form_at-quote cs = cond-false (is_word_character 34) _ _ quote_no_word
+
+pub form_at-comment : (cs : List ℕ) → form_at 37 cs ≡ forms.Comment
+unfolding form_at
+form_at-comment cs = cond-false (is_word_character 37) _ _ percent_no_word
+
+pub form_at-other : (c : ℕ) (cs : List ℕ) → is_word_character c ≡ false → (c == 34) ≡ false → (c == 37) ≡ false → form_at c cs ≡ cond (ends_line c cs) forms.LineEnd forms.Single
+unfolding form_at
+form_at-other c cs h k l = cond-false (is_word_character c) _ _ h ∙ cond-false (c == 34) _ _ k ∙ cond-false (c == 37) _ _ l
+
+-- so there are six cases
+pub record IsOther (c : ℕ) (cs : List ℕ) : Type 0 where
+  pub no_word : is_word_character c ≡ false
+  pub no_quote : (c == 34) ≡ false
+  pub no_comment : (c == 37) ≡ false
+
+abbrev pub FormCases : ℕ → List ℕ → Type 0
+FormCases c cs =
+    ((is_word_character c ≡ true) × (form_at c cs ≡ forms.Word))
+    ⊎ (((c ≡ 34) × (has_quote cs ≡ true) × (form_at c cs ≡ forms.Quote))
+    ⊎ (((c ≡ 34) × (has_quote cs ≡ false) × (form_at c cs ≡ forms.OpenQuote))
+    ⊎ (((c ≡ 37) × (form_at c cs ≡ forms.Comment))
+    ⊎ ((IsOther c cs × (ends_line c cs ≡ true) × (form_at c cs ≡ forms.LineEnd))
+    ⊎ (IsOther c cs × (ends_line c cs ≡ false) × (form_at c cs ≡ forms.Single))))))
+
+pub form_cases : (c : ℕ) (cs : List ℕ) → FormCases c cs
+form_cases c cs =
+    ⊎_elim (λ h. inl (h, form_at-word c cs h))
+    (λ h. inr (⊎_elim (λ k. let e = eqb-true c 34 k in
+    let f = ap (λ d. form_at d cs) e ∙ form_at-quote cs in
+    ⊎_elim (λ l. inl (e, l, f ∙ cond-true (has_quote cs) forms.Quote forms.OpenQuote l))
+    (λ l. inr (inl (e, l, f ∙ cond-false (has_quote cs) forms.Quote forms.OpenQuote l)))
+    (cases_Bool (has_quote cs)))
+    (λ k. inr (inr (⊎_elim (λ l. let e = eqb-true c 37 l in inl (e, ap (λ d. form_at d cs) e ∙ form_at-comment cs))
+    (λ l. let other : IsOther c cs = record { no_word = h; no_quote = k; no_comment = l } in
+    let f = form_at-other c cs h k l in
+    inr (⊎_elim (λ m. inl (other, m, f ∙ cond-true (ends_line c cs) forms.LineEnd forms.Single m))
+    (λ m. inr (other, m, f ∙ cond-false (ends_line c cs) forms.LineEnd forms.Single m))
+    (cases_Bool (ends_line c cs))))
+    (cases_Bool (c == 37)))))
+    (cases_Bool (c == 34))))
+    (cases_Bool (is_word_character c))
+
+-- a piece lies on its line
+pub quote_inside : (c : ℕ) (cs : List ℕ) → form_at c cs ≡ forms.Quote → before_quote cs < length cs
+quote_inside c cs e =
+    ⊎_elim (λ h. let f : forms.Word ≡ forms.Quote = sym h.1 ∙ e in cc)
+    (λ h. ⊎_elim (λ k. grind (arith, nat_tests, k.1))
+    (λ k. ⊎_elim (λ l. let f : forms.OpenQuote ≡ forms.Quote = sym l.2 ∙ e in cc)
+    (λ l. ⊎_elim (λ m. let f : forms.Comment ≡ forms.Quote = sym m.1 ∙ e in cc)
+    (λ m. ⊎_elim (λ n. let f : forms.LineEnd ≡ forms.Quote = sym n.2 ∙ e in cc)
+    (λ n. let f : forms.Single ≡ forms.Quote = sym n.2 ∙ e in cc) m) l) k) h)
+    (form_cases c cs)
+
+ends_some : (cs : List ℕ) → ends_line 13 cs ≡ true → 1 ≤ length cs
+unfolding ends_line
+ends_some [] h = cc
+ends_some (c ∷ cs) h = omega arith
+
+pub end_inside : (c : ℕ) (cs : List ℕ) → form_at c cs ≡ forms.LineEnd → c ≡ 13 → 1 ≤ length cs
+end_inside c cs e r =
+    ⊎_elim (λ h. let f : forms.Word ≡ forms.LineEnd = sym h.1 ∙ e in cc)
+    (λ h. ⊎_elim (λ k. let f : forms.Quote ≡ forms.LineEnd = sym k.2 ∙ e in cc)
+    (λ k. ⊎_elim (λ l. let f : forms.OpenQuote ≡ forms.LineEnd = sym l.2 ∙ e in cc)
+    (λ l. ⊎_elim (λ m. let f : forms.Comment ≡ forms.LineEnd = sym m.1 ∙ e in cc)
+    (λ m. ⊎_elim (λ n. ends_some cs (subst (λ d. ends_line d cs ≡ true) r n.1))
+    (λ n. let f : forms.Single ≡ forms.LineEnd = sym n.2 ∙ e in cc) m) l) k) h)
+    (form_cases c cs)
+
+-- the pieces behind so many characters are those of what is left
+pub pieces_behind-drop : (n : ℕ) (cs : List ℕ) → pieces_behind n cs ≡ pieces_of (drop n cs)
+unfolding pieces_behind
+pieces_behind-drop zero [] = refl
+pieces_behind-drop (suc n) [] = refl
+pieces_behind-drop zero (c ∷ cs) = refl
+pieces_behind-drop (suc n) (c ∷ cs) = pieces_behind-drop n cs
 
 pub pieces_of-nil : pieces_of [] ≡ []
-unfolding pieces_of
+unfolding pieces_behind
 pieces_of-nil = refl
 
--- a character that is no letter is a piece
-pub pieces_of-single : (b : ℕ) (bs : List ℕ) → is_letter b ≡ false → pieces_of (b ∷ bs) ≡ piece (kind_of b) (b ∷ []) ∷ pieces_of bs
-pieces_of-single b bs h = pieces_of-apart b bs (and_left _ _ h)
+pieces_of-front : (c : ℕ) (cs : List ℕ) → pieces_of (c ∷ cs) ≡ piece (form_at c cs) (c ∷ take (more_at (form_at c cs) c cs) cs) ∷ pieces_behind (more_at (form_at c cs) c cs) cs
+unfolding pieces_behind
+pieces_of-front c cs = refl
 
--- letters with no letter behind them are a piece
-pub pieces_of-word : (w rest : List ℕ) → 0 < length w → list_all is_letter w ≡ true → begins_with_letter rest ≡ false → pieces_of (w ++ rest) ≡ piece (Some kinds.Word) w ∷ pieces_of rest
-unfolding begins_with_letter
-pieces_of-word [] rest n h k = absurd (omega arith)
-pieces_of-word (b ∷ []) rest n h k =
-    let letter = (and_parts _ _ h).0 in
-    pieces_of-apart b rest (and_right _ _ k) ∙ ap (λ kind. piece kind (b ∷ []) ∷ pieces_of rest) (kind_of-letter b letter)
-pieces_of-word (b ∷ c ∷ w) rest n h k =
-    let letters = and_parts _ _ h in
-    let next = and_parts _ _ letters.1 in
-    pieces_of-joined b (c ∷ w ++ rest) letters.0 next.0 ∙ ap (onto_first b) (pieces_of-word (c ∷ w) rest (omega arith) letters.1 k)
+-- the pieces of a line are its first piece and those of what is left
+pub pieces_of-cons : (c : ℕ) (cs : List ℕ) → pieces_of (c ∷ cs) ≡ piece (form_at c cs) (c ∷ take (more_at (form_at c cs) c cs) cs) ∷ pieces_of (drop (more_at (form_at c cs) c cs) cs)
+pieces_of-cons c cs =
+    let more = more_at (form_at c cs) c cs in
+    pieces_of-front c cs ∙ ap (λ ps. piece (form_at c cs) (c ∷ take more cs) ∷ ps) (pieces_behind-drop more cs)
 
--- the pieces joined are the line
-text_of-onto_first : (b : ℕ) (bs : List ℕ) (ps : List Piece) → text_of ps ≡ bs → 0 < length bs → text_of (onto_first b ps) ≡ b ∷ bs
-text_of-onto_first b bs [] e n = absurd (omega (arith, ap length e))
-text_of-onto_first b bs (p ∷ ps) e n = ap (λ xs. b ∷ xs) e
+pub first_cut : (cs others : List ℕ) (c n more : ℕ) (form : Form) → 0 < length cs → c ≡ get_or cs 0 c → others ≡ drop 1 cs → form ≡ form_at c others → more ≡ more_at form c others → n ≡ more + 1 → pieces_of cs ≡ piece form (take n cs) ∷ pieces_of (drop n cs)
+first_cut [] others c n more form h e o f m w = absurd (omega arith)
+first_cut (d ∷ cs) others c n more form h e o f m w =
+    let form_is : form_at d cs ≡ form = sym (f ∙ ap₂ form_at e o) in
+    let more_is : more_at (form_at d cs) d cs ≡ more = ap (λ g. more_at g d cs) form_is ∙ sym (m ∙ ap₂ (more_at form) e o) in
+    let wide : suc more ≡ n = omega arith in
+    pieces_of-cons d cs
+    ∙ ap₂ (λ g k. piece g (d ∷ take k cs) ∷ pieces_of (drop k cs)) form_is more_is
+    ∙ ap (λ k. piece form (take k (d ∷ cs)) ∷ pieces_of (drop k (d ∷ cs))) wide
 
-begins_some : (bs : List ℕ) → begins_with_letter bs ≡ true → 0 < length bs
-unfolding begins_with_letter
-begins_some [] h = cc
-begins_some (b ∷ bs) h = omega arith
+-- whether a comment is next
+comment_form : (c : ℕ) (cs : List ℕ) → is_comment_form (form_at c cs) ≡ (c == 37)
+comment_form c cs =
+    ⊎_elim (λ h. ap is_comment_form h.1 ∙ sym (ne_eqb c 37 (λ e. both_ways (is_word_character c) (ap is_word_character e ∙ percent_no_word) h.0)))
+    (λ h. ⊎_elim (λ k. ap is_comment_form k.2 ∙ sym (ap (λ d. d == 37) k.0))
+    (λ k. ⊎_elim (λ l. ap is_comment_form l.2 ∙ sym (ap (λ d. d == 37) l.0))
+    (λ l. ⊎_elim (λ m. ap is_comment_form m.1 ∙ sym (ap (λ d. d == 37) m.0))
+    (λ m. ⊎_elim (λ n. ap is_comment_form n.2 ∙ sym n.0.no_comment)
+    (λ n. ap is_comment_form n.2 ∙ sym n.0.no_comment) m) l) k) h)
+    (form_cases c cs)
 
-pub text_of-pieces_of : (line : List ℕ) → text_of (pieces_of line) ≡ line
-text_of-pieces_of [] = ap text_of pieces_of-nil
-text_of-pieces_of (b ∷ bs) =
-    ⊎_elim (λ h. let both = and_parts _ _ h in
-    ap text_of (pieces_of-joined b bs both.0 both.1) ∙ text_of-onto_first b bs (pieces_of bs) (text_of-pieces_of bs) (begins_some bs both.1))
-    (λ h. ap text_of (pieces_of-apart b bs h) ∙ ap (λ xs. b ∷ xs) (text_of-pieces_of bs))
-    (cases_Bool (is_letter b && begins_with_letter bs))
-
--- a line that is cut into pieces has them as its pieces
-pub pieces_of-cut : (line : List ℕ) (ps : List Piece) → Cuts line ps → ps ≡ pieces_of line
-pieces_of-cut line [] c = sym (ap pieces_of c ∙ pieces_of-nil)
-pieces_of-cut line (p ∷ ps) c =
-    let tail = pieces_of-cut c.0 ps c.3 in
-    ⊎_elim (λ (w : IsLongestWord p c.0).
-    ap₂ (λ q qs. q ∷ qs) (ap (λ kind. piece kind p.bytes) w.kind) tail
-    ∙ sym (ap pieces_of c.1 ∙ pieces_of-word p.bytes c.0 w.some w.letters w.longest))
-    (λ (s : IsSingle p).
-    ap₂ (λ q qs. q ∷ qs) (ap₂ piece s.kind s.bytes) tail
-    ∙ sym (ap pieces_of (c.1 ∙ ap (λ bytes. bytes ++ c.0) s.bytes) ∙ pieces_of-single s.byte c.0 s.no_letter))
-    c.2
-
--- so there is only one cut
-pub one_cut_lem : (line : List ℕ) (a b : List Piece) → Cuts line a → Cuts line b → a ≡ b
-one_cut_lem line a b c d = pieces_of-cut line a c ∙ sym (pieces_of-cut line b d)
-
--- a piece before a letter put onto it is a longer word
-cut_onto : (b : ℕ) (bs : List ℕ) (ps : List Piece) → is_letter b ≡ true → begins_with_letter bs ≡ true → Cuts bs ps → Cuts (b ∷ bs) (onto_first b ps)
-unfolding begins_with_letter
-cut_onto b bs [] h k c = let e : begins_with_letter [] ≡ true = subst (λ xs. begins_with_letter xs ≡ true) c k in cc
-cut_onto b bs (p ∷ ps) h k c = (
-  c.0,
-  ap (λ xs. b ∷ xs) c.1,
-  ⊎_elim (λ (w : IsLongestWord p c.0). inl (record { kind = w.kind; some = omega arith; letters = and_from _ _ h w.letters; longest = w.longest }))
-      (λ (s : IsSingle p).
-      let e : bs ≡ s.byte ∷ c.0 = c.1 ∙ ap (λ bytes. bytes ++ c.0) s.bytes in
-      absurd (both_ways (is_letter s.byte) s.no_letter (subst (λ xs. begins_with_letter xs ≡ true) e k)))
-      c.2,
-  c.3,
-)
-
--- the pieces of a line are a cut of it
-cut_apart : (b : ℕ) (bs : List ℕ) → (is_letter b && begins_with_letter bs) ≡ false → IsLongestWord (piece (kind_of b) (b ∷ [])) bs ⊎ IsSingle (piece (kind_of b) (b ∷ []))
-cut_apart b bs h =
-    ⊎_elim (λ letter. inl (record { kind = kind_of-letter b letter; some = omega arith; letters = and_from _ _ letter refl; longest = ⊎_elim (λ none. absurd (both_ways (is_letter b) none letter)) (λ last. last) (and_cases _ _ h) }))
-    (λ none. inr (record { byte = b; bytes = refl; no_letter = none; kind = refl }))
-    (cases_Bool (is_letter b))
-
-pub cuts-pieces_of : (line : List ℕ) → Cuts line (pieces_of line)
-cuts-pieces_of [] = subst (Cuts []) (sym pieces_of-nil) refl
-cuts-pieces_of (b ∷ bs) =
-    ⊎_elim (λ h. let both = and_parts _ _ h in
-    subst (Cuts (b ∷ bs)) (sym (pieces_of-joined b bs both.0 both.1)) (cut_onto b bs (pieces_of bs) both.0 both.1 (cuts-pieces_of bs)))
-    (λ h. subst (Cuts (b ∷ bs)) (sym (pieces_of-apart b bs h)) (bs, refl, cut_apart b bs h, cuts-pieces_of bs))
-    (cases_Bool (is_letter b && begins_with_letter bs))
+pub begins_comment-pieces_of : (cs : List ℕ) → begins_comment (pieces_of cs) ≡ begins_with 37 cs
+begins_comment-pieces_of [] = ap begins_comment pieces_of-nil
+begins_comment-pieces_of (c ∷ cs) = ap begins_comment (pieces_of-cons c cs) ∙ comment_form c cs

@@ -1,49 +1,55 @@
 -- The layout of a text: this project's profile.
-use Rattle.std.specs.Prelude.{ℕ, ◌+◌, ◌-◌, ◌^◌, ◌<◌, ◌≤◌, ◌==◌, Bool, false, not, ◌&&◌, ◌||◌, if◌then◌else◌, Option, Some, None, Result, Ok, Err, List, [], ◌∷◌, ◌++◌, length, flat_map, slice_index_or, slice_range, All, IsCharBoundary}
-use Rattle.std.specs.List.{list_all}
-use Rattle.le_base.specs.declared.code.Code.TheVariants.{Unbuilt}
+use Rattle.std.specs.Prelude.{◌≡◌, ℕ, ◌+◌, ◌-◌, ◌^◌, ◌<◌, ◌≤◌, if◌then◌else◌, Option, Some, None, Result, Err, List, [], ◌∷◌, ◌++◌, length, take, flat_map, slice_index, slice_index_or, slice_range, All, IsCharBoundary, chars, encode_utf8_all, true}
+use Rattle.std.specs.Str.{is_utf8}
+use Rattle.std.specs.Str.Lossy.{utf8_valid_len}
+use Rattle.le_base.specs.declared.code.Code.TheVariants.{NotUtf8}
 use Rattle.le_base.specs.declared.stop.Refusal.{Refusal}
-use Rattle.le_base.specs.Stop.{refusal_at}
 use Rattle.le_layout.specs.declared.token.Kind.{Kind}
 use Rattle.le_layout.specs.declared.token.Kind.TheVariants as kinds
 use Rattle.le_layout.specs.declared.token.Token.{Token}
 use Rattle.le_layout.specs.declared.token.Line.{Line}
 use Rattle.le_layout.specs.declared.layout.Layout.{Layout}
-use Rattle.le_layout.specs.Pieces.{is_letter, Piece, pieces_of}
+use Rattle.le_layout.specs.declared.place.Place.{Place}
+use Rattle.le_layout.specs.declared.piece.Form.{Form}
+use Rattle.le_layout.specs.declared.piece.Form.TheVariants as forms
+use Rattle.le_layout.specs.Characters.{kind_of}
+use Rattle.le_layout.specs.Places.{place_behind, without_mark, first_place, refused}
 use Rattle.le_layout.specs.Lines.{lines_of}
+use Rattle.le_layout.specs.Pieces.{Piece, pieces_of, is_word}
+use Rattle.le_layout.specs.Faults.{faults_from, unless_faulty}
 
--- where a piece begins: its first byte in the text, the number of its line from 1, and its column from 1
-pub record Place : Type 0 where
-  pub byte : ℕ
-  pub line : ℕ
-  pub column : ℕ
+-- the token of this kind whose place this is and whose bytes are those from one to another
+abbrev pub token : Kind → Place → ℕ → ℕ → Token
+token kind place from to = record { kind = kind; from = from; to = to; line = place.line; column = place.column + 1 }
 
--- so many bytes further on the line, where each character is one byte and one column wide
-abbrev pub further : Place → ℕ → Place
-further place n = record place { byte = place.byte + n; column = place.column + n }
+-- the token that a single character is
+abbrev pub single_token : Option Kind → Place → ℕ → List Token
+single_token None place to = []
+single_token (Some kind) place to = token kind place place.byte to ∷ []
 
--- the place behind a piece
-abbrev pub behind : Place → Piece → Place
-behind place p = further place (length p.bytes)
+-- the token of a piece that begins at a place and ends before a byte; the bytes of a quoted text are those between its quotation marks
+unfoldable pub token_at : Form → List ℕ → Place → ℕ → List Token
+token_at forms.Word chars place to = token kinds.Word place place.byte to ∷ []
+token_at forms.Quote chars place to = token kinds.Quote place (place.byte + 1) (to - 1) ∷ []
+token_at forms.Single chars place to = single_token (kind_of (slice_index chars 0)) place to
+token_at _ chars place to = []
 
--- the token of this kind that begins at a place and ends before a byte; a space is none
-abbrev pub token_at : Place → Option Kind → ℕ → List Token
-token_at place None to = []
-token_at place (Some kind) to = record { kind = kind; from = place.byte; to = to; line = place.line; column = place.column } ∷ []
+-- a token or none, as a list
+abbrev pub as_list : Option Token → List Token
+as_list None = []
+as_list (Some t) = t ∷ []
 
 -- the tokens among pieces that stand one after another from a place on
 unfoldable pub tokens_at : Place → List Piece → List Token
 tokens_at place [] = []
-tokens_at place (p ∷ ps) = token_at place p.kind (behind place p).byte ++ tokens_at (behind place p) ps
+tokens_at place (p ∷ ps) =
+    let behind = place_behind place p.chars in
+    token_at p.form p.chars place behind.byte ++ tokens_at behind ps
 
--- the tokens of the line of this number that begins at this byte
-abbrev pub row_at : ℕ → ℕ → List ℕ → List Token
-row_at number byte line = tokens_at (record { byte = byte; line = number; column = 1 }) (pieces_of line)
-
--- the tokens of each of the lines that follow each other from this number and byte on
-unfoldable pub rows_from : ℕ → ℕ → List (List ℕ) → List (List Token)
-rows_from number byte [] = []
-rows_from number byte (line ∷ lines) = row_at number byte line ∷ rows_from (number + 1) (byte + length line + 1) lines
+-- the tokens of each of the lines that follow each other from a place on
+unfoldable pub rows_from : Place → List (List ℕ) → List (List Token)
+rows_from place [] = []
+rows_from place (line ∷ lines) = tokens_at place (pieces_of line) ∷ rows_from (place_behind place line) lines
 
 -- the line of these tokens, before which so many stand; without a token there is none
 abbrev pub line_of : ℕ → List Token → List Line
@@ -55,33 +61,29 @@ unfoldable pub lines_from : ℕ → List (List Token) → List Line
 lines_from count [] = []
 lines_from count (row ∷ rows) = line_of count row ++ lines_from (count + length row) rows
 
+-- the tokens of each line of these characters
+abbrev pub rows_of : List ℕ → List (List Token)
+rows_of cs = rows_from (first_place cs) (lines_of (without_mark cs))
+
+-- the faults among these characters
+abbrev pub faults_of : List ℕ → List Refusal
+faults_of cs = faults_from (first_place cs) (lines_of (without_mark cs))
+
 -- the text with the tokens of all its lines, and with its lines that have a token
 unfoldable pub layout_in : List ℕ → Layout
 layout_in text =
-    let rows = rows_from 1 0 (lines_of text) in
+    let rows = rows_of (chars text) in
     record { text = text; tokens = flat_map (λ row. row) rows; lines = lines_from 0 rows }
 
--- the bytes that this version reads: letters, space, LF, `*`, `:` and `.`
-unfoldable pub is_read : ℕ → Bool
-is_read b = is_letter b || (b == 32 || (b == 10 || (b == 42 || (b == 58 || b == 46))))
+-- the place behind the first characters of a text
+unfoldable pub place_in : List ℕ → Place
+place_in front = place_behind (first_place (chars front)) (without_mark (chars front))
 
--- whether a letter, a full stop and a letter stand at the front
-unfoldable pub begins_inner_stop : List ℕ → Bool
-begins_inner_stop (a ∷ b ∷ c ∷ bs) = is_letter a && ((b == 46) && is_letter c)
-begins_inner_stop _ = false
-
--- whether a full stop stands directly between two letters
-unfoldable pub has_inner_stop : List ℕ → Bool
-has_inner_stop [] = false
-has_inner_stop (b ∷ bs) = begins_inner_stop (b ∷ bs) || has_inner_stop bs
-
--- whether this version reads the text
-unfoldable pub is_built : List ℕ → Bool
-is_built bytes = list_all is_read bytes && not (has_inner_stop bytes)
-
--- the layout of a text, or the refusal of one that this version doesn't read
+-- the layout of a text, or its refusal: NotUtf8 at the first bad byte, or else the fault of the least place
 unfoldable pub layout_of : List ℕ → Result Layout Refusal
-layout_of bytes = if is_built bytes then Ok (layout_in bytes) else Err (refusal_at Unbuilt 0 0)
+layout_of bytes =
+    if is_utf8 bytes then unless_faulty (layout_in bytes) (faults_of (chars bytes))
+    else Err (refused NotUtf8 (place_in (take (utf8_valid_len bytes) bytes)))
 
 -- what stands for a token that isn't there
 abbrev pub no_token : Token
@@ -91,17 +93,29 @@ no_token = record { kind = kinds.Word; from = 0; to = 0; line = 0; column = 0 }
 abbrev pub token_text : Layout → ℕ → List ℕ
 token_text layout k = let t = slice_index_or layout.tokens k no_token in slice_range layout.text t.from t.to
 
--- a token's bytes lie in the text, from the beginning of a character to the beginning of one or the end
+-- these bytes are the UTF-8 of a word
+pub record IsWordText (bytes : List ℕ) : Type 0 where
+  pub characters : List ℕ
+  pub word : is_word characters ≡ true
+  pub spelled : encode_utf8_all characters ≡ bytes
+
+-- a token's bytes lie in the text, from the beginning of a character to the beginning of one or the end, and those of a word are a word
 pub record IsTokenIn (text : List ℕ) (t : Token) : Type 0 where
   pub ordered : t.from ≤ t.to
   pub inside : t.to ≤ length text
   pub begins : IsCharBoundary text t.from
   pub ends : IsCharBoundary text t.to
+  pub word : t.kind ≡ kinds.Word → IsWordText (slice_range text t.from t.to)
 
 -- a line has at least one of so many tokens
 pub record IsLineOver (count : ℕ) (l : Line) : Type 0 where
   pub some : l.from < l.to
   pub inside : l.to ≤ count
+
+-- lines follow each other over the tokens: each begins with the token that follows the last of the line before it
+abbrev pub Follow : ℕ → List Line → ℕ → Type 0
+Follow from [] to = from ≡ to
+Follow from (l ∷ ls) to = (l.from ≡ from) × Follow l.to ls to
 
 -- what every layout keeps
 pub record IsLayout (layout : Layout) : Type 0 where
@@ -109,3 +123,4 @@ pub record IsLayout (layout : Layout) : Type 0 where
   pub few : length layout.tokens ≤ length layout.text
   pub tokens : All (IsTokenIn layout.text) layout.tokens
   pub lines : All (IsLineOver (length layout.tokens)) layout.lines
+  pub whole : Follow 0 layout.lines (length layout.tokens)

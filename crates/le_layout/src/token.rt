@@ -1,4 +1,5 @@
 ghost use Rattle.std.specs.Prelude.{◌≡◌};
+ghost use Rattle.le_layout.specs.Words.{is_word, is_quote, is_comma, is_colon, is_star, is_stop};
 
 use std::marker::Model;
 
@@ -23,6 +24,50 @@ pub enum Kind {
     Star,
     /// A full stop.
     Stop,
+}
+
+impl Kind {
+    /// Whether a token of this kind is a word.
+    pub fn is_word(self) -> bool
+        ensures { result ≡ is_word self }
+    {
+        matches!(self, Kind::Word)
+    }
+
+    /// Whether it is a quoted text.
+    pub fn is_quote(self) -> bool
+        ensures { result ≡ is_quote self }
+    {
+        matches!(self, Kind::Quote)
+    }
+
+    /// Whether it is a comma.
+    pub fn is_comma(self) -> bool
+        ensures { result ≡ is_comma self }
+    {
+        matches!(self, Kind::Comma)
+    }
+
+    /// Whether it is a colon.
+    pub fn is_colon(self) -> bool
+        ensures { result ≡ is_colon self }
+    {
+        matches!(self, Kind::Colon)
+    }
+
+    /// Whether it is an asterisk.
+    pub fn is_star(self) -> bool
+        ensures { result ≡ is_star self }
+    {
+        matches!(self, Kind::Star)
+    }
+
+    /// Whether it is a full stop.
+    pub fn is_stop(self) -> bool
+        ensures { result ≡ is_stop self }
+    {
+        matches!(self, Kind::Stop)
+    }
 }
 
 /// A token: what it is, its bytes in the text, and its place.

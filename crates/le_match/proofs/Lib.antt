@@ -1,2 +1,9 @@
-pub mod ReadingLemmas
-pub mod SpanLemmas
+pub mod CutLemmas
+pub mod FitLemmas
+pub mod MarkedLemmas
+pub mod BestLemmas
+pub mod TermLemmas
+pub mod FitsLemmas
+pub mod ReadLemmas
+pub mod ShownLemmas
+pub mod WholeLemmas

@@ -1,1 +1,5 @@
-pub mod Reading
+pub mod Readings
+pub mod Shares
+pub mod Shown
+pub mod Terms
+pub mod Walks

@@ -1,8 +1,21 @@
-//! How a sentence is read by a template.
+//! How a sentence is read by the templates of a document.
 #![tactic(auto)]
 
-mod reading;
+mod choosing;
+mod cuts;
+mod fitting;
+mod laws;
+mod marked;
+mod phrases;
+mod readings;
+mod sentences;
+mod sharing;
+mod shown;
 #[cfg(test)]
 mod tests;
 
-pub use reading::slots;
+pub use choosing::best;
+pub use laws::every_way;
+pub use phrases::term;
+pub use readings::{BestReading, Lengths, Reading};
+pub use sentences::read;

@@ -2,26 +2,14 @@
 use Rattle.std.proofs.Common.{◌≡◌, ℕ, suc, ◌+◌, ◌-◌, ◌<◌, ◌≤◌, Bool, true, false, cond, ◌&&◌, List, [], ◌∷◌, ◌++◌, length, map, flat_map, get_or, take, drop, slice_range, Option, None, Some, sym, refl, ap, ◌∙◌, arith, nat_le, append_assoc, Bor, zero}
 use Rattle.std.specs.Option.{option_map}
 use Rattle.std.proofs.lemmas.List.{drop_all, drop_more, length-drop, length-take, append-nil, length-map, map-append, drop-drop}
-use Rattle.le_layout.specs.declared.token.Kind.TheVariants as kinds
 use Rattle.le_layout.specs.declared.token.Token.{Token}
 use Rattle.le_layout.specs.declared.layout.Layout.{Layout}
 use Rattle.le_templates.specs.declared.part.Part.{Part}
 use Rattle.le_templates.specs.declared.part.Part.TheVariants.{Word, Slot}
-use Rattle.le_templates.specs.Form.{text_of, is_word, is_star, joined, is_phrase, Opened, onto_phrase, closed, slot_first, outside, inside, is_spelled, begins_with}
-
--- what is read past the end of the tokens
-abbrev pub no_token : Token
-no_token = record { kind = kinds.Word; from = 0; to = 0; line = 0; column = 0 }
-
--- a span that isn't empty is its first item and the rest
-pub slice_more : {X : Type 0} (xs : List X) (at to : ℕ) (d : X) → at < to → to ≤ length xs → slice_range xs at to ≡ get_or xs at d ∷ slice_range xs (at + 1) to
-slice_more xs at to d low high =
-    let e : to - at ≡ suc (to - (at + 1)) = omega arith in
-    ap (λ n. take n (drop at xs)) e ∙ ap (take (suc (to - (at + 1)))) (drop_more xs at d (omega arith))
-
--- an empty span
-pub slice_none : {X : Type 0} (xs : List X) (at to : ℕ) → to ≤ at → slice_range xs at to ≡ []
-slice_none xs at to h = let e : to - at ≡ 0 = omega arith in ap (λ n. take n (drop at xs)) e
+use Rattle.le_layout.specs.Layout.{no_token}
+use Rattle.le_layout.specs.Words.{text_of, is_word, is_star}
+use Rattle.le_layout.proofs.SpanLemmas.{slice_more, slice_none}
+use Rattle.le_templates.specs.Form.{joined, is_phrase, Opened, onto_phrase, closed, slot_first, outside, inside, is_spelled, begins_with}
 
 -- the first items and the next one
 take_push : {X : Type 0} (xs ys : List X) (n : ℕ) (x : X) → drop n xs ≡ x ∷ ys → take (suc n) xs ≡ take n xs ++ x ∷ []

@@ -1,32 +1,13 @@
 -- The form of a template: this project's profile.
-use Rattle.std.specs.Prelude.{ℕ, ◌+◌, Bool, true, false, not, ◌&&◌, ◌||◌, nat_le, if◌then◌else◌, Option, Some, None, List, [], ◌∷◌, ◌++◌, length, map, flat_map, slice_range, codes}
+use Rattle.std.specs.Prelude.{ℕ, ◌+◌, Bool, true, false, not, ◌&&◌, ◌||◌, nat_le, if◌then◌else◌, Option, Some, None, List, [], ◌∷◌, ◌++◌, length, flat_map, codes}
 use Rattle.std.specs.Option.{option_map}
-use Rattle.std.specs.Char.{to_ascii_lowercase}
 use Rattle.std.specs.List.{list_any, count_by}
-use Rattle.std.specs.Str.{bytes_eq}
 use Rattle.le_base.specs.declared.stop.Span.{Span}
-use Rattle.le_layout.specs.declared.token.Kind.{Kind}
-use Rattle.le_layout.specs.declared.token.Kind.TheVariants as kinds
 use Rattle.le_layout.specs.declared.token.Token.{Token}
 use Rattle.le_layout.specs.declared.layout.Layout.{Layout}
+use Rattle.le_layout.specs.Words.{text_of, tokens_of, same_word, is_word, is_star}
 use Rattle.le_templates.specs.declared.part.Part.{Part}
 use Rattle.le_templates.specs.declared.part.Part.TheVariants.{Word, Slot}
-
--- the tokens of a span
-abbrev pub tokens_of : Layout → Span → List Token
-tokens_of layout span = slice_range layout.tokens span.from span.to
-
--- the text of a token
-abbrev pub text_of : Layout → Token → List ℕ
-text_of layout t = slice_range layout.text t.from t.to
-
-abbrev pub is_word : Kind → Bool
-is_word kinds.Word = true
-is_word _ = false
-
-abbrev pub is_star : Kind → Bool
-is_star kinds.Star = true
-is_star _ = false
 
 -- the words of a phrase joined by one space
 abbrev pub joined : List (List ℕ) → List ℕ
@@ -70,10 +51,6 @@ abbrev mutual
   inside layout (t ∷ ts) =
       if is_star t.kind then closed (outside layout ts)
       else (if is_word t.kind then onto_phrase (text_of layout t ∷ []) (inside layout ts) else None)
-
--- the same word, ASCII case ignored
-abbrev pub same_word : List ℕ → List ℕ → Bool
-same_word a b = bytes_eq (map to_ascii_lowercase a) (map to_ascii_lowercase b)
 
 abbrev pub is_word_part : Part → Bool
 is_word_part (Word w) = true

@@ -5,7 +5,7 @@ use Rattle.std.specs.List.{list_any}
 use Rattle.std.specs.Str.{bytes_eq}
 use Rattle.le_templates.specs.declared.part.Part.{Part}
 use Rattle.le_templates.specs.declared.part.Part.TheVariants.{Word, Slot}
-use Rattle.le_templates.specs.Form.{same_word}
+use Rattle.le_layout.specs.Words.{same_word}
 
 -- a word in ASCII lower case, or a slot without its phrase
 abbrev pub skeleton_part : Part → Option (List ℕ)

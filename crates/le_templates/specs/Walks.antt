@@ -8,7 +8,8 @@ use Rattle.le_layout.specs.declared.layout.Layout.{Layout}
 use Rattle.le_templates.specs.declared.part.Part.{Part}
 use Rattle.le_templates.specs.declared.part.Part.TheVariants.{Word, Slot}
 use Rattle.le_templates.specs.declared.part.Template.{Template}
-use Rattle.le_templates.specs.Form.{text_of, joined, slot_first, outside, inside}
+use Rattle.le_layout.specs.Words.{text_of}
+use Rattle.le_templates.specs.Form.{joined, slot_first, outside, inside}
 use Rattle.le_templates.specs.Skeletons.{key_of, last_word}
 use Rattle.le_templates.specs.Table.{predefined}
 

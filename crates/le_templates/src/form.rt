@@ -2,13 +2,14 @@ ghost use Rattle.std.specs.Prelude.{◌≡◌, ◌&&◌, nat_le, ◌+◌, ◌<�
 ghost use Rattle.std.specs.Option.{option_map};
 ghost use Rattle.std.specs.List.{list_any};
 ghost use Rattle.le_layout.specs.Layout.{IsLayout};
-ghost use Rattle.le_templates.specs.Form.{tokens_of, text_of, is_word as is_word_kind, is_star as is_star_kind, joined, slot_first, outside, inside, is_word_part, is_spelled, is_reserved, begins_with, has_opening, word_count, has_counts, is_template, template_of};
+ghost use Rattle.le_layout.specs.Words.{tokens_of, text_of};
+ghost use Rattle.le_templates.specs.Form.{joined, slot_first, outside, inside, is_word_part, is_spelled, is_reserved, begins_with, has_opening, word_count, has_counts, is_template, template_of};
 ghost use Rattle.le_templates.specs.Walks.{ClosesAt};
 ghost use Rattle.le_templates.specs.declared.part.Part.TheVariants.{Slot};
 
 use crate::{Part, Parts, Template};
 use le_base::{Span, Text};
-use le_layout::{Kind, Layout, Token};
+use le_layout::Layout;
 use std::alloc::{AllocError, Global};
 
 /// The template that the tokens of a span spell, or None where they spell none. The error is want of
@@ -45,11 +46,11 @@ fn outside(alloc: Global, layout: &Layout, span: Span) -> Result<Option<Vec<Part
     let mut parts = Vec::new(alloc);
     let mut at = span.from;
     while at < span.to {
-        let token = &layout.tokens.as_slice()[at as usize];
-        if is_word(token) {
+        let kind = layout.token(at).kind;
+        if kind.is_word() {
             parts.push(Part::Word(Text::of(alloc, layout.word(at))?))?;
             at += 1;
-        } else if is_star(token) {
+        } else if kind.is_star() {
             let Some(end) = slot_end(layout, at + 1, span.to) else {
                 return Ok(None);
             };
@@ -69,15 +70,15 @@ fn slot_end(layout: &Layout, from: u32, to: u32) -> Option<u32>
     ensures { ClosesAt layout.now from to result }
 {
     for end in from..to {
-        let token = &layout.tokens.as_slice()[end as usize];
-        if is_star(token) {
+        let kind = layout.token(end).kind;
+        if kind.is_star() {
             return if is_phrase_len(end - from) {
                 Some(end)
             } else {
                 None
             };
         }
-        if !is_word(token) {
+        if !kind.is_word() {
             return None;
         }
     }
@@ -105,20 +106,6 @@ fn phrase(alloc: Global, layout: &Layout, from: u32, to: u32) -> Result<Text, Al
         text.push_str(layout.word(at))?;
     }
     Ok(text)
-}
-
-// Whether a token is a word.
-fn is_word(token: &Token) -> bool
-    ensures { result ≡ is_word_kind token.now.kind }
-{
-    matches!(token.kind, Kind::Word)
-}
-
-// Whether a token is an asterisk.
-fn is_star(token: &Token) -> bool
-    ensures { result ≡ is_star_kind token.now.kind }
-{
-    matches!(token.kind, Kind::Star)
 }
 
 // Whether words and slots are a template.

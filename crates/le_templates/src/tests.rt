@@ -50,8 +50,11 @@ fn declared(alloc: Global, templates: &mut Templates, text: &str) -> Result<Stri
     }
 }
 
-const DECLARED: [(&str, &str); 22] = [
+const DECLARED: [(&str, &str); 25] = [
     (" *a person*", "BadTemplate 1:2"),
+    ("\t*a person", "BadTemplate 1:5"),
+    ("*a, b* is up", "BadTemplate 1:1"),
+    ("*a* is \"up\"", "BadTemplate 1:1"),
     ("*a person* is happy", "20"),
     ("\n  *a child* IS happy", "SameTemplate 2:3"),
     ("*a thing* is in *a place*", "21"),

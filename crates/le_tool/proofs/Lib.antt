@@ -1,4 +1,6 @@
-pub mod GrammarLemmas
-pub mod AnswerLemmas
-pub mod FitLemmas
+pub mod DocumentLemmas
+pub mod JobLemmas
 pub mod ReportLemmas
+pub mod SearchLemmas
+mod ValueExamples
+pub mod ValueLemmas

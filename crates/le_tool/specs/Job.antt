@@ -1,14 +1,69 @@
 -- The words of the command line: this project's profile.
-use Rattle.std.specs.Prelude.{ℕ, ◌&&◌, if◌then◌else◌, List, [], ◌∷◌, Option, None, Some, codes}
+use Rattle.std.specs.Prelude.{ℕ, ◌+◌, ◌<◌, ◌≤◌, ◌==◌, ◌&&◌, nat_le, if◌then◌else◌, List, [], ◌∷◌, slice_index, Option, None, Some, is_none, IfSome, codes, ℤ, pos, negsuc}
+use Rattle.std.specs.Option.{option_map, option_and_then, unwrap_or}
 use Rattle.std.specs.Str.{bytes_eq}
-use Rattle.le_tool.specs.declared.jobs.TheConstants.{ANSWERS}
+use Rattle.le_values.specs.Numbers.{number_of}
+use Rattle.le_tool.specs.declared.jobs.TheConstants.{ANSWERS, BUDGET, MOST_ANSWERS}
 use Rattle.le_tool.specs.declared.jobs.Command.TheVariants.{Answer}
+use Rattle.le_tool.specs.declared.jobs.Options.{Options}
 use Rattle.le_tool.specs.declared.jobs.Task.{Task}
 
--- the words `answer`, `--query` and a name, and no other words, ask for a task
+-- the number, where it is from 1 to this one
+abbrev pub from_one : ℕ → Option ℤ → Option ℕ
+from_one most None = None
+from_one most (Some (negsuc n)) = None
+from_one most (Some (pos n)) = if nat_le 1 n && nat_le n most then Some n else None
+
+-- the number from 1 to this one that the word is, in digits without a sign or a leading zero
+unfoldable pub count_up_to : ℕ → List ℕ → Option ℕ
+count_up_to most word = if slice_index word 0 == 48 then None else from_one most (number_of word)
+
+abbrev pub with_query : Options → ℕ → Options
+with_query o place = record { query = Some place; scenario = o.scenario; budget = o.budget; answers = o.answers }
+
+abbrev pub with_scenario : Options → ℕ → Options
+with_scenario o place = record { query = o.query; scenario = Some place; budget = o.budget; answers = o.answers }
+
+abbrev pub with_budget : Options → ℕ → Options
+with_budget o n = record { query = o.query; scenario = o.scenario; budget = Some n; answers = o.answers }
+
+abbrev pub with_answers : Options → ℕ → Options
+with_answers o n = record { query = o.query; scenario = o.scenario; budget = o.budget; answers = Some n }
+
+-- the options with one more: its name, its value, and the value's place among the words; none where there is no such option, it is there already, or its value isn't one
+unfoldable pub with_option : Options → List ℕ → ℕ → List ℕ → Option Options
+with_option o name place value =
+    if bytes_eq name (codes "--query") && is_none o.query then Some (with_query o place)
+    else (if bytes_eq name (codes "--scenario") && is_none o.scenario then Some (with_scenario o place)
+    else (if bytes_eq name (codes "--budget") && is_none o.budget then option_map (with_budget o) (count_up_to BUDGET value)
+    else (if bytes_eq name (codes "--answers") && is_none o.answers then option_map (with_answers o) (count_up_to MOST_ANSWERS value)
+    else None)))
+
+-- the options with those of some words, which are pairs of a name and a value and stand from this place on
+abbrev pub options_from : ℕ → Options → List (List ℕ) → Option Options
+options_from at o [] = Some o
+options_from at o (name ∷ []) = None
+options_from at o (name ∷ value ∷ words) = option_and_then (λ p. options_from (at + 2) p words) (with_option o name (at + 1) value)
+
+abbrev pub no_options : Options
+no_options = record { query = None; scenario = None; budget = None; answers = None }
+
+-- the task of the command `answer` with these options, where the query has a name
+abbrev pub answer_task : Options → Option Task
+answer_task o = option_map (λ place. record { command = Answer; query = Some place; scenario = o.scenario; budget = unwrap_or o.budget BUDGET; answers = unwrap_or o.answers ANSWERS }) o.query
+
+-- the task of this command with the words behind it
+abbrev pub command_task : List ℕ → List (List ℕ) → Option Task
+command_task command words = if bytes_eq command (codes "answer") then option_and_then answer_task (options_from 1 no_options words) else None
+
+-- the task that a list of words asks for: a command and pairs of an option's name and its value, in any order and each name at most once
 abbrev pub job_of : List (List ℕ) → Option Task
-job_of (command ∷ option ∷ name ∷ []) =
-    if bytes_eq command (codes "answer") && bytes_eq option (codes "--query")
-    then Some (record { command = Answer; query = Some 2; answers = ANSWERS })
-    else None
-job_of _ = None
+job_of [] = None
+job_of (command ∷ words) = command_task command words
+
+-- the places of names are below this one, and the numbers are in their ranges
+pub record AreOptions (count : ℕ) (o : Options) : Type 0 where
+  pub query : IfSome o.query (λ place. place < count)
+  pub scenario : IfSome o.scenario (λ place. place < count)
+  pub budget : IfSome o.budget (λ n. (1 ≤ n) × (n ≤ BUDGET))
+  pub answers : IfSome o.answers (λ n. (1 ≤ n) × (n ≤ MOST_ANSWERS))

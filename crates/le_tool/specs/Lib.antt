@@ -1,4 +1,5 @@
-pub mod Grammar
 pub mod Job
-pub mod Answers
 pub mod Report
+pub mod Statuses
+pub mod ValueSymbols
+pub mod Values

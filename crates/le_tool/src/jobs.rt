@@ -1,5 +1,7 @@
-ghost use Rattle.std.specs.Prelude.{◌≡◌, ◌<◌, length, map, string_bytes, IfSome};
-ghost use Rattle.le_tool.specs.Job.{job_of};
+ghost use Rattle.std.specs.Prelude.{◌≡◌, ℕ, ◌+◌, ◌<◌, ◌≤◌, length, map, string_bytes, take, drop, IfSome};
+ghost use Rattle.le_tool.specs.Job.{count_up_to, no_options, with_option, options_from, answer_task as answer_task_of, job_of, AreOptions};
+
+use le_values::number_of;
 
 /// What a list of words asks for.
 #[derive(Clone, Copy, Debug, PartialEq, Eq)]
@@ -11,6 +13,12 @@ pub enum Command {
 /// The most answers that are shown, where the words don't say.
 pub const ANSWERS: u32 = 100;
 
+/// The most answers that the words may ask for.
+pub const MOST_ANSWERS: u32 = 1000;
+
+/// The most selections of a search, where the words don't say, and the most that they may ask for.
+pub const BUDGET: u32 = 100_000;
+
 /// A command with its options.
 #[derive(Clone, Copy, Debug, PartialEq, Eq)]
 pub struct Task {
@@ -18,25 +26,126 @@ pub struct Task {
     pub command: Command,
     /// The place of the query's name among the words, where the command has one.
     pub query: Option<usize>,
+    /// The place of the scenario's name among the words, where one is asked for.
+    pub scenario: Option<usize>,
+    /// The most selections of the search.
+    pub budget: u32,
     /// The most answers that are shown.
     pub answers: u32,
 }
 
+// The options of a command so far: the places of names, and numbers.
+#[derive(Clone, Copy, Debug)]
+struct Options {
+    query: Option<usize>,
+    scenario: Option<usize>,
+    budget: Option<u32>,
+    answers: Option<u32>,
+}
+
 /// The task that the words ask for, without the program's name, and None exactly where they have not
-/// the form of one: `answer --query NAME`, where NAME is any word. It takes no memory.
+/// the form of one: `answer`, and then pairs of an option and its value in any order, each option at
+/// most once. `--query NAME` has to be there, with any word as the name; `--scenario NAME`,
+/// `--budget N` with N from 1 to 100,000 (100,000 where it isn't there) and `--answers K` with K from 1
+/// to 1,000 (100 where it isn't there) may be. Numbers are ASCII digits without a sign or a leading
+/// zero. It takes no memory.
 pub fn job(words: &[String]) -> Option<Task>
     ensures exact { result ≡ job_of (map string_bytes words.now) }
-    ensures within { IfSome result (λ task. IfSome task.query (λ place. place < length words.now)) }
+    ensures query { IfSome result (λ task. IfSome task.query (λ place. place < length words.now)) }
+    ensures scenario { IfSome result (λ task. IfSome task.scenario (λ place. place < length words.now)) }
+    ensures budget { IfSome result (λ task. (1 ≤ task.budget) × (task.budget ≤ 100000)) }
+    ensures answers { IfSome result (λ task. (1 ≤ task.answers) × (task.answers ≤ 1000)) }
 {
-    let [command, option, _] = words else {
-        return None;
-    };
-    if command.as_str() != "answer" || option.as_str() != "--query" {
+    if words.is_empty() || words[0].as_str() != "answer" {
         return None;
     }
+    answer_task(read_options(words)?)
+}
+
+// The task of the command `answer` with these options.
+fn answer_task(options: Options) -> Option<Task>
+    ensures { result ≡ answer_task_of options }
+{
+    let query = options.query?;
     Some(Task {
         command: Command::Answer,
-        query: Some(2),
-        answers: ANSWERS,
+        query: Some(query),
+        scenario: options.scenario,
+        budget: options.budget.unwrap_or(BUDGET),
+        answers: options.answers.unwrap_or(ANSWERS),
     })
+}
+
+// The options behind the first word.
+fn read_options(words: &[String]) -> Option<Options>
+    requires { 0 < length words.now }
+    ensures exact { result ≡ options_from 1 no_options (map string_bytes (drop 1 words.now)) }
+    ensures within { IfSome result (λ o. AreOptions (length words.now) o) }
+{
+    let mut options = Options {
+        query: None,
+        scenario: None,
+        budget: None,
+        answers: None,
+    };
+    let mut at = 1;
+    while at < words.len() {
+        if at + 1 == words.len() {
+            return None;
+        }
+        options = with_option(options, words[at].as_str(), at + 1, words[at + 1].as_str())?;
+        at += 2;
+    }
+    Some(options)
+}
+
+// The options with one more, whose value is the word at this place, or None where it is none.
+#[tactic(auto, unfolding(crate::specs::Job::with_option))]
+fn with_option(options: Options, name: &str, place: usize, value: &str) -> Option<Options>
+    ensures exact { result ≡ with_option options name.now place value.now }
+    ensures within { (count : ℕ) → place < count → AreOptions count options → IfSome result (AreOptions count) }
+{
+    if name == "--query" && options.query.is_none() {
+        return Some(Options {
+            query: Some(place),
+            ..options
+        });
+    }
+    if name == "--scenario" && options.scenario.is_none() {
+        return Some(Options {
+            scenario: Some(place),
+            ..options
+        });
+    }
+    if name == "--budget" && options.budget.is_none() {
+        let budget = count_up_to(BUDGET, value)?;
+        return Some(Options {
+            budget: Some(budget),
+            ..options
+        });
+    }
+    if name == "--answers" && options.answers.is_none() {
+        let answers = count_up_to(MOST_ANSWERS, value)?;
+        return Some(Options {
+            answers: Some(answers),
+            ..options
+        });
+    }
+    None
+}
+
+// The number from 1 to `most` that a word is, in digits without a sign or a leading zero.
+#[tactic(auto, unfolding(crate::specs::Job::count_up_to))]
+fn count_up_to(most: u32, word: &str) -> Option<u32>
+    ensures exact { result ≡ count_up_to most word.now }
+    ensures within { IfSome result (λ n. (1 ≤ n) × (n ≤ most)) }
+{
+    if word.starts_with('0') {
+        return None;
+    }
+    let number = number_of(word)?;
+    if number < 1 || number > i64::from(most) {
+        return None;
+    }
+    Some(number as u32)
 }

@@ -1,13 +1,14 @@
 //! The words of the command line and a document to the report.
 #![tactic(auto)]
 
-mod answers;
-mod grammar;
 mod jobs;
 mod report;
 mod running;
 #[cfg(test)]
 mod tests;
+#[cfg(test)]
+mod value_tests;
+mod values;
 
 pub use jobs::{Command, Task, job};
 pub use running::run;

@@ -1,16 +1,29 @@
-ghost use Rattle.std.specs.Prelude.{◌≡◌, ◌≢◌, ◌<◌, length, ◌≤◌, ◌↔◌, map, string_bytes, IfOk, IfSome, IsNone, IsErrOf};
+ghost use Rattle.std.specs.Prelude.{◌≡◌, ◌≢◌, ◌<◌, ◌≤◌, ◌⊎◌, ◌↔◌, true, length, map, string_bytes, Ok, IfOk, OnOk, IfSome, IsNone, IsSome, IsErrOf};
+ghost use Rattle.std.specs.Option.{option_map};
 ghost use Rattle.std.specs.Io.KnownBytes.{Appends, Keeps};
+ghost use Rattle.le_base.specs.declared.code.Code.TheVariants.{TooLong};
 ghost use Rattle.le_base.specs.Outside.{Rose, AppendsPrefix};
-ghost use Rattle.le_base.specs.Stop.{Gives};
+ghost use Rattle.le_base.specs.Stop.{refusal_at, Gives};
+ghost use Rattle.le_terms.specs.Program.{IsProgram};
+ghost use Rattle.le_clauses.specs.Validity.{IsWhole};
+ghost use Rattle.le_clauses.specs.Selection.{selected};
+ghost use Rattle.le_proofs.specs.Goals.{HasAtomsAlone};
+ghost use Rattle.le_proofs.specs.declared.next.Next.TheVariants.{Answer};
+ghost use Rattle.le_machine.specs.declared.phase.Phase.TheVariants.{Told};
+ghost use Rattle.le_machine.specs.State.{last_values};
 ghost use Rattle.le_tool.specs.Job.{job_of};
-ghost use Rattle.le_tool.specs.Report.{document_answers, task_name, answers_or_refusal, usage_text, refused_report, report, unbuilt as unbuilt_refusal};
+ghost use Rattle.le_tool.specs.Report.{document_of, said_text, end_line, end_status, stopped_line, search_report, document_report, question_of, question_by, query_name as query_name_of, word_at, refused_report, usage_text, task_report, report};
+ghost use Rattle.le_tool.specs.Statuses.{failure_status, is_answer, IsDone};
 
-use crate::answers::count_answers;
-use crate::grammar::is_document;
 use crate::jobs::{Task, job};
-use crate::report::{Report, answered, refused};
-use le_base::{Code, ReadStop, Refusal, Sink, Source, Stop, put, read_all};
+use crate::report::{Report, answer, ended, refused, stopped};
+use le_base::{Code, ReadStop, Refusal, Sink, Source, Stop, WriteFault, put, read_all};
+use le_clauses::{Whole, program, select};
+use le_docs::sections;
 use le_layout::scan;
+use le_machine::Machine;
+use le_proofs::Next;
+use le_terms::{Asked, Program};
 use std::alloc::{AllocError, Global};
 
 /// The line that says how the program is called.
@@ -20,118 +33,296 @@ const USAGE: &str =
 /// The most bytes of a document.
 const MOST_BYTES: usize = 1_048_576;
 
-/// The refusal of a text that this version doesn't read.
-fn unbuilt(alloc: Global) -> Stop
-    ensures { result ≡ Stop.Refused unbuilt_refusal }
-{
-    Stop::Refused(Refusal::at(alloc, Code::Unbuilt, 0, 0))
-}
-
-/// How many answers the query of this name has in the document, or the document's refusal.
-#[tactic(auto, unfolding(crate::specs::Report::document_answers))]
-fn answers(alloc: Global, name: &str, bytes: &[u8]) -> Result<u32, Stop>
-    ensures { Gives (λ count. count) result (document_answers name.now bytes.now) }
-{
-    if bytes.len() > MOST_BYTES {
-        return Err(unbuilt(alloc));
-    }
-    let layout = scan(alloc, bytes)?;
-    if !is_document(&layout, name) {
-        return Err(unbuilt(alloc));
-    }
-    count_answers(alloc, &layout)
-}
-
-/// The report of a query on a document. The error is want of memory.
-#[tactic(auto, unfolding(crate::specs::Report::task_report))]
-fn report_of(alloc: Global, name: &str, most: u32, bytes: &[u8]) -> Result<Report, AllocError>
-    ensures { IfOk result (λ r. r ≡ answers_or_refusal most (document_answers name.now bytes.now)) }
-{
-    match answers(alloc, name, bytes) {
-        Ok(count) => answered(alloc, most, count),
-        Err(Stop::Refused(refusal)) => refused(alloc, &refusal),
-        Err(Stop::Memory) => Err(AllocError),
-    }
-}
-
-/// Why there is no report.
+/// Why the report isn't written to its end.
 #[derive(Clone, Copy, Debug, PartialEq, Eq)]
-enum Halt {
+enum Failure {
     /// A read failed.
-    Fault,
+    Read,
+    /// A write failed.
+    Write,
     /// Memory wasn't found.
     Memory,
 }
 
-/// The report of a document with too many bytes.
-fn too_long(alloc: Global) -> Result<Report, Halt>
-    ensures exact { IfOk result (λ r. r ≡ refused_report unbuilt_refusal) }
-    ensures memory { IsErrOf result Halt.Fault → ⊥ }
-{
-    let refusal = Refusal::at(alloc, Code::Unbuilt, 0, 0);
-    match refused(alloc, &refusal) {
-        Ok(report) => Ok(report),
-        Err(_) => Err(Halt::Memory),
+impl Failure {
+    /// The status that says so.
+    fn status(self) -> u8
+        ensures { result ≡ failure_status self }
+    {
+        match self {
+            Failure::Read => 5,
+            Failure::Write => 6,
+            Failure::Memory => 7,
+        }
     }
 }
 
-/// The report of a query on what the source holds.
-fn report_on<S: Source>(alloc: Global, name: &str, most: u32, input: &mut S) -> Result<Report, Halt>
-    ensures exact { IfOk result (λ r. IfSome (S.left input.old) (λ bytes. r ≡ answers_or_refusal most (document_answers name.now bytes))) }
-    ensures status { IfOk result (λ r. r.status < 2) }
-    ensures fault { IsErrOf result Halt.Fault → Rose (S.faults input.old) (S.faults input.new) }
+impl From<AllocError> for Failure {
+    ghost use Rattle.std.specs.Prelude.{◌≡◌};
+    ghost use Rattle.le_tool.specs.declared.running.Failure.TheVariants.{Memory};
+
+    ghost from_gives = { λ _ failure. failure ≡ Memory };
+
+    fn from(_error: AllocError) -> Failure {
+        Failure::Memory
+    }
+}
+
+/// The document that some bytes are, or its refusal.
+#[tactic(auto, unfolding(crate::specs::Report::document_of))]
+fn document(alloc: Global, bytes: &[u8]) -> Result<Whole, Stop>
+    ensures exact { Gives (λ whole. whole) result (document_of bytes.now) }
+    ensures sound { IfOk result IsWhole }
+{
+    if bytes.len() > MOST_BYTES {
+        return Err(Stop::Refused(too_long(alloc)));
+    }
+    let layout = scan(alloc, bytes)?;
+    let doc = sections(alloc, &layout)?;
+    program(alloc, &layout, &doc)
+}
+
+/// The refusal of a document with too many bytes.
+fn too_long(alloc: Global) -> Refusal
+    ensures { result ≡ refusal_at TooLong 0 0 }
+{
+    Refusal::at(alloc, Code::TooLong, 0, 0)
+}
+
+/// The document that some bytes are, or its refusal. The error is want of memory.
+fn read_bytes(alloc: Global, bytes: &[u8]) -> Result<Result<Whole, Refusal>, Failure>
+    ensures exact { IfOk result (λ found. found ≡ document_of bytes.now) }
+    ensures sound { IfOk result (λ found. IfOk found IsWhole) }
+    ensures memory { (IsErrOf result Failure.Read → ⊥) × (IsErrOf result Failure.Write → ⊥) }
+{
+    match document(alloc, bytes) {
+        Ok(whole) => Ok(Ok(whole)),
+        Err(Stop::Refused(refusal)) => Ok(Err(refusal)),
+        Err(Stop::Memory) => Err(Failure::Memory),
+    }
+}
+
+/// The document that the source holds, or its refusal.
+fn read_document<S: Source>(alloc: Global, input: &mut S) -> Result<Result<Whole, Refusal>, Failure>
+    ensures exact { IfOk result (λ found. IfSome (S.left input.old) (λ bytes. found ≡ document_of bytes)) }
+    ensures sound { IfOk result (λ found. IfOk found IsWhole) }
+    ensures fault { IsErrOf result Failure.Read → Rose (S.faults input.old) (S.faults input.new) }
+    ensures no_write { IsErrOf result Failure.Write → ⊥ }
     ensures count { S.faults input.old ≤ S.faults input.new }
 {
     match read_all(alloc, input, MOST_BYTES) {
-        Ok(bytes) => report_of(alloc, name, most, &bytes).map_err(|_| Halt::Memory),
-        Err(ReadStop::TooLong) => too_long(alloc),
-        Err(ReadStop::Fault) => Err(Halt::Fault),
-        Err(ReadStop::Memory) => Err(Halt::Memory),
+        Ok(bytes) => read_bytes(alloc, &bytes),
+        Err(ReadStop::TooLong) => Ok(Err(too_long(alloc))),
+        Err(ReadStop::Fault) => Err(Failure::Read),
+        Err(ReadStop::Memory) => Err(Failure::Memory),
     }
 }
 
-/// Writes a text whole and answers the status, or 6 where a write failed.
-fn say<K: Sink>(out: &mut K, text: &str, status: u8) -> u8
-    requires { status < 5 }
-    ensures done { result ≢ 6 → Appends (K.written out.old) (K.written out.new) text.now × (result ≡ status) }
+/// Writes a text whole.
+fn say<K: Sink>(out: &mut K, text: &str) -> Result<(), Failure>
+    ensures done { OnOk result (Appends (K.written out.old) (K.written out.new) text.now) }
     ensures part { AppendsPrefix (K.written out.old) (K.written out.new) text.now }
-    ensures fault { result ≡ 6 → Rose (K.faults out.old) (K.faults out.new) }
+    ensures fault { IsErrOf result Failure.Write → Rose (K.faults out.old) (K.faults out.new) }
+    ensures no_read { IsErrOf result Failure.Read → ⊥ }
     ensures count { K.faults out.old ≤ K.faults out.new }
 {
     match put(out, text.as_bytes()) {
-        Ok(()) => status,
-        Err(_) => 6,
+        Ok(()) => Ok(()),
+        Err(WriteFault) => Err(Failure::Write),
     }
 }
 
-/// Runs a task on the document that the source holds, and writes its report.
-fn run_task<S: Source, K: Sink>(
-    alloc: Global,
-    name: &str,
-    most: u32,
-    input: &mut S,
-    out: &mut K,
-) -> u8
-    ensures report { result ≢ 5 → result ≢ 6 → result ≢ 7 → IfSome (S.left input.old) (λ bytes.
-        let r = answers_or_refusal most (document_answers name.now bytes) in
-        Appends (K.written out.old) (K.written out.new) r.text × (result ≡ r.status)) }
-    ensures part { IfSome (S.left input.old) (λ bytes.
-        AppendsPrefix (K.written out.old) (K.written out.new) (answers_or_refusal most (document_answers name.now bytes)).text) }
-    ensures statuses { result ≢ 5 → result ≢ 6 → result ≢ 7 → result < 2 }
-    ensures read_fault { result ≡ 5 → Rose (S.faults input.old) (S.faults input.new) × Keeps (K.written out.old) (K.written out.new) }
-    ensures write_fault { result ≡ 6 → Rose (K.faults out.old) (K.faults out.new) }
+/// Writes a report whole.
+fn say_report<K: Sink>(out: &mut K, report: &Report) -> Result<u8, Failure>
+    ensures done { IfOk result (λ status. Appends (K.written out.old) (K.written out.new) report.now.text × (status ≡ report.now.status)) }
+    ensures part { AppendsPrefix (K.written out.old) (K.written out.new) report.now.text }
+    ensures fault { IsErrOf result Failure.Write → Rose (K.faults out.old) (K.faults out.new) }
+    ensures no_read { IsErrOf result Failure.Read → ⊥ }
+    ensures count { K.faults out.old ≤ K.faults out.new }
 {
-    match report_on(alloc, name, most, input) {
-        Ok(report) => say(out, report.text.as_str(), report.status),
-        Err(Halt::Fault) => 5,
-        Err(Halt::Memory) => 7,
+    say(out, report.text.as_str())?;
+    Ok(report.status)
+}
+
+/// Writes the report of a refused document.
+fn say_refusal<K: Sink>(alloc: Global, refusal: &Refusal, out: &mut K) -> Result<u8, Failure>
+    ensures done { IfOk result (λ status. Appends (K.written out.old) (K.written out.new) (refused_report refusal.now).text × (status ≡ 1)) }
+    ensures part { AppendsPrefix (K.written out.old) (K.written out.new) (refused_report refusal.now).text }
+    ensures fault { IsErrOf result Failure.Write → Rose (K.faults out.old) (K.faults out.new) }
+    ensures no_read { IsErrOf result Failure.Read → ⊥ }
+    ensures count { K.faults out.old ≤ K.faults out.new }
+{
+    let report = refused(alloc, refusal)?;
+    say_report(out, &report)
+}
+
+/// Writes the lines of the machine's last answer, whose number this is.
+fn say_answer<K: Sink>(
+    alloc: Global,
+    whole: &Whole,
+    asked: &[Asked],
+    number: u32,
+    machine: &Machine,
+    out: &mut K,
+) -> Result<(), Failure>
+    requires { machine.now.phase ≡ Told Answer }
+    ensures done { OnOk result (Appends (K.written out.old) (K.written out.new) (said_text whole.now asked.now number (last_values machine.now))) }
+    ensures some { OnOk result (IsSome (last_values machine.now)) }
+    ensures part { AppendsPrefix (K.written out.old) (K.written out.new) (said_text whole.now asked.now number (last_values machine.now)) }
+    ensures fault { IsErrOf result Failure.Write → Rose (K.faults out.old) (K.faults out.new) }
+    ensures no_read { IsErrOf result Failure.Read → ⊥ }
+    ensures count { K.faults out.old ≤ K.faults out.new }
+{
+    let values = machine.values(alloc)?;
+    let text = answer(alloc, whole, asked, number, &values)?;
+    say(out, text.as_str())
+}
+
+/// Whether a search found another answer.
+fn is_answer(next: Next) -> bool
+    ensures { result ≡ is_answer next }
+{
+    matches!(next, Next::Answer)
+}
+
+/// Writes the line of a search's end, and answers its status.
+fn say_end<K: Sink>(alloc: Global, budget: u32, next: Next, out: &mut K) -> Result<u8, Failure>
+    ensures done { IfOk result (λ status. Appends (K.written out.old) (K.written out.new) (end_line budget next) × (status ≡ end_status next)) }
+    ensures part { AppendsPrefix (K.written out.old) (K.written out.new) (end_line budget next) }
+    ensures fault { IsErrOf result Failure.Write → Rose (K.faults out.old) (K.faults out.new) }
+    ensures no_read { IsErrOf result Failure.Read → ⊥ }
+    ensures count { K.faults out.old ≤ K.faults out.new }
+{
+    let report = ended(alloc, budget, next)?;
+    say_report(out, &report)
+}
+
+/// Writes that as many answers stand as were asked for.
+fn say_stopped<K: Sink>(alloc: Global, most: u32, out: &mut K) -> Result<u8, Failure>
+    ensures done { IfOk result (λ status. Appends (K.written out.old) (K.written out.new) (stopped_line most) × (status ≡ 0)) }
+    ensures part { AppendsPrefix (K.written out.old) (K.written out.new) (stopped_line most) }
+    ensures fault { IsErrOf result Failure.Write → Rose (K.faults out.old) (K.faults out.new) }
+    ensures no_read { IsErrOf result Failure.Read → ⊥ }
+    ensures count { K.faults out.old ≤ K.faults out.new }
+{
+    let text = stopped(alloc, most)?;
+    say(out, text.as_str())?;
+    Ok(0)
+}
+
+/// Searches a program, and writes each answer as it is found, up to `most`, and then how the search ends.
+fn say_answers<K: Sink>(
+    alloc: Global,
+    whole: &Whole,
+    program: &Program,
+    budget: u32,
+    most: u32,
+    out: &mut K,
+) -> Result<u8, Failure>
+    requires program { IsProgram program.now }
+    requires atoms { HasAtomsAlone program.now }
+    requires some { 1 ≤ budget }
+    requires few { budget ≤ 1000000 }
+    ensures done { IfOk result (λ status. let r = search_report whole.now most budget program.now in Appends (K.written out.old) (K.written out.new) r.text × (status ≡ r.status)) }
+    ensures part { AppendsPrefix (K.written out.old) (K.written out.new) (search_report whole.now most budget program.now).text }
+    ensures fault { IsErrOf result Failure.Write → Rose (K.faults out.old) (K.faults out.new) }
+    ensures no_read { IsErrOf result Failure.Read → ⊥ }
+    ensures count { K.faults out.old ≤ K.faults out.new }
+{
+    let mut machine = Machine::start(alloc, program, budget)?;
+    let mut given = 0;
+    while given < most {
+        let next = machine.next(alloc)?;
+        if !is_answer(next) {
+            return say_end(alloc, budget, next, out);
+        }
+        say_answer(
+            alloc,
+            whole,
+            program.asked.as_slice(),
+            given + 1,
+            &machine,
+            out,
+        )?;
+        given += 1;
+    }
+    say_stopped(alloc, most, out)
+}
+
+/// Writes the report of the query of a name under a scenario, in a document or its refusal.
+fn say_query<K: Sink>(
+    alloc: Global,
+    document: &Result<Whole, Refusal>,
+    names: Names<'_>,
+    budget: u32,
+    most: u32,
+    out: &mut K,
+) -> Result<u8, Failure>
+    requires document { IfOk document.now IsWhole }
+    requires some { 1 ≤ budget }
+    requires few { budget ≤ 1000000 }
+    ensures done { IfOk result (λ status. let r = document_report (question_by names.entry budget most) document.now in Appends (K.written out.old) (K.written out.new) r.text × (status ≡ r.status)) }
+    ensures part { AppendsPrefix (K.written out.old) (K.written out.new) (document_report (question_by names.entry budget most) document.now).text }
+    ensures fault { IsErrOf result Failure.Write → Rose (K.faults out.old) (K.faults out.new) }
+    ensures no_read { IsErrOf result Failure.Read → ⊥ }
+    ensures count { K.faults out.old ≤ K.faults out.new }
+{
+    match document {
+        Ok(whole) => say_program(alloc, whole, names, budget, most, out),
+        Err(refusal) => say_refusal(alloc, refusal, out),
     }
 }
 
-/// The word at the place of the query's name, or the empty text where the task has none.
+/// Writes the report of the query of a name under a scenario in a document.
+fn say_program<K: Sink>(
+    alloc: Global,
+    whole: &Whole,
+    names: Names<'_>,
+    budget: u32,
+    most: u32,
+    out: &mut K,
+) -> Result<u8, Failure>
+    requires whole { IsWhole whole.now }
+    requires some { 1 ≤ budget }
+    requires few { budget ≤ 1000000 }
+    ensures done { IfOk result (λ status. let r = document_report (question_by names.entry budget most) (Ok whole.now) in Appends (K.written out.old) (K.written out.new) r.text × (status ≡ r.status)) }
+    ensures part { AppendsPrefix (K.written out.old) (K.written out.new) (document_report (question_by names.entry budget most) (Ok whole.now)).text }
+    ensures fault { IsErrOf result Failure.Write → Rose (K.faults out.old) (K.faults out.new) }
+    ensures no_read { IsErrOf result Failure.Read → ⊥ }
+    ensures count { K.faults out.old ≤ K.faults out.new }
+{
+    match select(alloc, whole, names.scenario, names.query) {
+        Ok(program) => say_answers(alloc, whole, &program, budget, most, out),
+        Err(Stop::Refused(refusal)) => say_refusal(alloc, &refusal, out),
+        Err(Stop::Memory) => Err(Failure::Memory),
+    }
+}
+
+/// The names that a task asks for.
+#[derive(Clone, Copy)]
+struct Names<'a> {
+    /// The query's.
+    query: &'a str,
+    /// The scenario's, where there is one.
+    scenario: Option<&'a str>,
+}
+
+/// The names that a task asks for among its words.
+fn task_names<'a>(words: &'a [String], task: &Task) -> Names<'a>
+    requires query { IfSome task.now.query (λ place. place < length words.now) }
+    requires scenario { IfSome task.now.scenario (λ place. place < length words.now) }
+    ensures { question_by result task.now.budget task.now.answers ≡ question_of (map string_bytes words.now) task.now }
+{
+    Names {
+        query: query_name(words, task),
+        scenario: scenario_name(words, task),
+    }
+}
+
+/// The name of the task's query, or the empty text where it has none.
 fn query_name<'a>(words: &'a [String], task: &Task) -> &'a str
     requires { IfSome task.now.query (λ place. place < length words.now) }
-    ensures { result.now ≡ task_name (map string_bytes words.now) task.now.query }
+    ensures { result.now ≡ query_name_of (map string_bytes words.now) task.now.query }
 {
     match task.query {
         Some(place) => words[place].as_str(),
@@ -139,11 +330,59 @@ fn query_name<'a>(words: &'a [String], task: &Task) -> &'a str
     }
 }
 
+/// The name of the task's scenario, where it has one.
+fn scenario_name<'a>(words: &'a [String], task: &Task) -> Option<&'a str>
+    requires { IfSome task.now.scenario (λ place. place < length words.now) }
+    ensures { option_map (λ s. s.now) result ≡ option_map (word_at (map string_bytes words.now)) task.now.scenario }
+{
+    let place = task.scenario?;
+    Some(words[place].as_str())
+}
+
+/// Runs a task on the document that the source holds, and writes its report.
+fn run_task<S: Source, K: Sink>(
+    alloc: Global,
+    words: &[String],
+    task: &Task,
+    input: &mut S,
+    out: &mut K,
+) -> Result<u8, Failure>
+    requires query { IfSome task.now.query (λ place. place < length words.now) }
+    requires scenario { IfSome task.now.scenario (λ place. place < length words.now) }
+    requires budget { (1 ≤ task.now.budget) × (task.now.budget ≤ 100000) }
+    ensures done { IfOk result (λ status. IfSome (S.left input.old) (λ bytes.
+        let r = task_report (map string_bytes words.now) task.now bytes in
+        Appends (K.written out.old) (K.written out.new) r.text × (status ≡ r.status))) }
+    ensures part { IfSome (S.left input.old) (λ bytes.
+        AppendsPrefix (K.written out.old) (K.written out.new) (task_report (map string_bytes words.now) task.now bytes).text) }
+    ensures statuses { IfOk result IsDone }
+    ensures read_fault { IsErrOf result Failure.Read → Rose (S.faults input.old) (S.faults input.new) × Keeps (K.written out.old) (K.written out.new) }
+    ensures write_fault { IsErrOf result Failure.Write → Rose (K.faults out.old) (K.faults out.new) }
+{
+    let names = task_names(words, task);
+    let document = read_document(alloc, input)?;
+    say_query(alloc, &document, names, task.budget, task.answers, out)
+}
+
+/// Writes the line that says how the program is called.
+fn say_usage<K: Sink>(out: &mut K) -> u8
+    ensures done { result ≢ 6 → Appends (K.written out.old) (K.written out.new) usage_text × (result ≡ 2) }
+    ensures part { AppendsPrefix (K.written out.old) (K.written out.new) usage_text }
+    ensures fault { result ≡ 6 → Rose (K.faults out.old) (K.faults out.new) }
+{
+    match put(out, USAGE.as_bytes()) {
+        Ok(()) => 2,
+        Err(WriteFault) => 6,
+    }
+}
+
 /// Writes the report of these words, without the program's name, on the document that the input holds,
-/// and answers its status: 0 where the query's answers are written, 1 where the document is refused, 2
-/// where the words ask for nothing. Further answers are 5 where a read failed, after which nothing was
-/// written, 6 where a write failed and 7 for want of memory, after which a first part of the report was
-/// written. Where the words ask for nothing, nothing is read and no memory is taken.
+/// each answer as soon as it is found, and answers its status: 0 where the answers are written and the
+/// search is done or as many stand as were asked for, 1 where the document or a name is refused, 2 where
+/// the words ask for nothing, 3 where the search floundered, 4 where its budget is spent, 9 where a
+/// number was out of range. Further answers are 5 where a read failed, after which nothing was written,
+/// 6 where a write failed and 7 for want of memory, after which a first part of the report was written.
+/// Where the words ask for nothing, nothing is read and no memory is taken.
 pub fn run<S: Source, K: Sink>(alloc: Global, words: &[String], input: &mut S, out: &mut K) -> u8
     // What is written is the report of these words on all that the input held.
     ensures report { result ≢ 5 → result ≢ 6 → result ≢ 7 → IfSome (S.left input.old) (λ bytes.
@@ -160,7 +399,7 @@ pub fn run<S: Source, K: Sink>(alloc: Global, words: &[String], input: &mut S, o
         Appends (K.written out.old) (K.written out.new) r.text × (result ≡ r.status)) }
 
     // Whether or not the bytes are told, no other status is answered.
-    ensures statuses { result ≢ 5 → result ≢ 6 → result ≢ 7 → result < 3 }
+    ensures statuses { result ≢ 5 → result ≢ 6 → result ≢ 7 → IsDone result ⊎ (result ≡ 2) }
 
     // A failed read is answered only where the source's count of faults rose, and then nothing was written.
     ensures read_fault { result ≡ 5 → Rose (S.faults input.old) (S.faults input.new) × Keeps (K.written out.old) (K.written out.new) }
@@ -173,7 +412,33 @@ pub fn run<S: Source, K: Sink>(alloc: Global, words: &[String], input: &mut S, o
     ensures usage_unread { IsNone (job_of (map string_bytes words.now)) → input.new ≡ input.old }
 {
     match job(words) {
-        None => say(out, USAGE, 2),
-        Some(task) => run_task(alloc, query_name(words, &task), task.answers, input, out),
+        None => say_usage(out),
+        Some(task) => task_status(alloc, words, &task, input, out),
+    }
+}
+
+/// Runs a task, and answers its status.
+fn task_status<S: Source, K: Sink>(
+    alloc: Global,
+    words: &[String],
+    task: &Task,
+    input: &mut S,
+    out: &mut K,
+) -> u8
+    requires query { IfSome task.now.query (λ place. place < length words.now) }
+    requires scenario { IfSome task.now.scenario (λ place. place < length words.now) }
+    requires budget { (1 ≤ task.now.budget) × (task.now.budget ≤ 100000) }
+    ensures report { result ≢ 5 → result ≢ 6 → result ≢ 7 → IfSome (S.left input.old) (λ bytes.
+        let r = task_report (map string_bytes words.now) task.now bytes in
+        Appends (K.written out.old) (K.written out.new) r.text × (result ≡ r.status)) }
+    ensures part { IfSome (S.left input.old) (λ bytes.
+        AppendsPrefix (K.written out.old) (K.written out.new) (task_report (map string_bytes words.now) task.now bytes).text) }
+    ensures statuses { result ≢ 5 → result ≢ 6 → result ≢ 7 → IsDone result }
+    ensures read_fault { result ≡ 5 → Rose (S.faults input.old) (S.faults input.new) × Keeps (K.written out.old) (K.written out.new) }
+    ensures write_fault { result ≡ 6 → Rose (K.faults out.old) (K.faults out.new) }
+{
+    match run_task(alloc, words, task, input, out) {
+        Ok(status) => status,
+        Err(failure) => failure.status(),
     }
 }

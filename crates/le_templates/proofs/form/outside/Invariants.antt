@@ -1,5 +1,6 @@
 use Rattle.std.proofs.Common.{◌≡◌, ◌≤◌, ◌-◌}
-use Rattle.le_templates.specs.Form.{outside, tokens_of}
+use Rattle.le_layout.specs.Words.{tokens_of}
+use Rattle.le_templates.specs.Form.{outside}
 use Rattle.le_templates.proofs.FormLemmas.{walked}
 use Rattle.le_templates.proofs.form.outside.Given as goal
 

@@ -1,0 +1,15 @@
+pub mod Fits
+pub mod Found
+pub mod Lengths
+pub mod Sound
+pub mod Exits
+pub mod RuleSteps
+pub mod ClauseSteps
+pub mod Selected
+pub mod SelectSteps
+pub mod DeclareSteps
+pub mod Spans
+pub mod QuerySteps
+pub mod PieceSteps
+pub mod Examples
+pub mod TruthLemmas

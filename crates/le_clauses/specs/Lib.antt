@@ -1,0 +1,5 @@
+pub mod Pieces
+pub mod Rules
+pub mod Selection
+pub mod Validity
+pub mod Truth

@@ -1,0 +1,162 @@
+use crate::{Pieces, program, select};
+use le_base::Stop;
+use le_docs::sections;
+use le_layout::scan;
+use le_terms::{Atom, Form, Literal, Program, Sym};
+use std::alloc::{AllocError, Global};
+use std::test::Fail;
+
+const START: &str =
+    "the templates are:\n*a person* is happy. *a person* likes *a thing*.\nthe knowledge base includes:\n";
+
+// An atom as its predicate and the symbols of its arguments.
+fn add_atom(out: &mut String, atom: &Atom) -> Result<(), AllocError> {
+    let pred = atom.pred;
+    write!(out, " {pred}(")?;
+    for term in atom.args.as_slice() {
+        match term.root() {
+            Sym::Name(n) => write!(out, "c{n}")?,
+            Sym::Var(n) => write!(out, "v{n}")?,
+            _ => out.push_str("other")?,
+        }
+    }
+    out.push_str(")")?;
+    Ok(())
+}
+
+fn add_literals(out: &mut String, literals: &[Literal]) -> Result<(), AllocError> {
+    for literal in literals {
+        match &literal.form {
+            Form::Pos(atom) => add_atom(out, atom)?,
+            _ => out.push_str("other")?,
+        }
+    }
+    Ok(())
+}
+
+// A program as a text: the line, head, body and variables of each clause, and the query with what it asks for.
+fn told(alloc: Global, program: &Program) -> Result<String, AllocError> {
+    let mut out = String::new(alloc);
+    for clause in program.clauses.as_slice() {
+        let line = clause.line;
+        write!(out, "{line}:")?;
+        add_atom(&mut out, &clause.head)?;
+        out.push_str(" if")?;
+        add_literals(&mut out, clause.body.as_slice())?;
+        let vars = clause.vars;
+        writeln!(out, " /{vars}")?;
+    }
+    out.push_str("?")?;
+    add_literals(&mut out, program.query.as_slice())?;
+    add_asked(&mut out, program)?;
+    Ok(out)
+}
+
+fn add_asked(out: &mut String, program: &Program) -> Result<(), AllocError> {
+    for asked in program.asked.as_slice() {
+        let name = asked.name.as_str();
+        let var = asked.var;
+        write!(out, " {name}={var}")?;
+    }
+    let vars = program.vars;
+    let users = program.users;
+    write!(out, " /{vars} {users}")
+}
+
+// The program of the query `q` of a document whose text begins so and goes on so.
+fn selected(alloc: Global, rest: &str, scenario: &str) -> Result<Program, Stop> {
+    let mut text = String::from_str(alloc, START)?;
+    text.push_str(rest)?;
+    if text.len() > 1000 {
+        return Err(Stop::Memory);
+    }
+    let layout = scan(alloc, text.as_bytes())?;
+    let doc = sections(alloc, &layout)?;
+    let whole = program(alloc, &layout, &doc)?;
+    let scenario = if scenario.is_empty() {
+        None
+    } else {
+        Some(scenario)
+    };
+    select(alloc, &whole, scenario, "q")
+}
+
+fn outcome(alloc: Global, rest: &str, scenario: &str) -> Result<String, AllocError> {
+    match selected(alloc, rest, scenario) {
+        Ok(program) => told(alloc, &program),
+        Err(Stop::Refused(refusal)) => {
+            let name = refusal.code.name();
+            let line = refusal.line;
+            let column = refusal.column;
+            format!(in alloc; "{name} {line}:{column}")
+        }
+        Err(Stop::Memory) => String::from_str(alloc, "no memory"),
+    }
+}
+
+const RULES: &str =
+    "Bob is happy.\na person is happy if\n the person likes tea\n and the person likes Bob.\nscenario s is:\nAnn likes tea.\nquery q is:\n *which person* is happy\n and Bob likes the person.\n";
+
+const CASES: [(&str, &str, &str); 16] = [
+    (
+        RULES,
+        "s",
+        "4: 20(c0) if /0\n5: 20(v0) if 21(v0c1) 21(v0c0) /1\n9: 21(c2c1) if /0\n? 20(v0) 21(c0v0) person=0 /1 2",
+    ),
+    (
+        RULES,
+        "",
+        "4: 20(c0) if /0\n5: 20(v0) if 21(v0c1) 21(v0c0) /1\n? 20(v0) 21(c0v0) person=0 /1 2",
+    ),
+    (RULES, "q", "NoScenario 0:0"),
+    ("Bob is happy.\nscenario s is:\n", "s", "NoQuery 0:0"),
+    (
+        "query q is:\n which person likes which thing.\n",
+        "",
+        "? 21(v0v1) person=0 thing=1 /2 2",
+    ),
+    ("Bob is equal to Ann.\n", "", "PredefinedHead 4:1"),
+    ("the person is equal to Ann.\n", "", "Dangling 4:1"),
+    ("Bob is equal to the person.\n", "", "PredefinedHead 4:1"),
+    ("which person is happy.\n", "", "WhichHere 4:1"),
+    (
+        "Bob is happy if\n the person is happy.\n",
+        "",
+        "Dangling 5:2",
+    ),
+    (
+        "a person is happy.\nthe person is happy.\n",
+        "",
+        "Dangling 5:1",
+    ),
+    ("a person likes a person.\n", "", "Again 4:16"),
+    (
+        "Bob is happy if\n Bob is equal to Bob.\n",
+        "",
+        "Unbuilt 5:2",
+    ),
+    ("Bob runs.\n", "", "NoReading 4:1"),
+    ("Bob is happy if\n.\n", "", "BadIndent 4:14"),
+    (
+        "Bob runs.\nthe templates are:\n*a* is happy.\n",
+        "",
+        "SameTemplate 6:1",
+    ),
+];
+
+#[test]
+fn programs_of_texts(rt: HostRuntime) -> Result<(), Fail> {
+    for (rest, scenario, expected) in CASES {
+        let found = outcome(rt.alloc(), rest, scenario)?;
+        assert_eq!(rt; found.as_str(), expected, "{rest:?}");
+    }
+    Ok(())
+}
+
+#[test]
+fn pieces_of_vectors(rt: HostRuntime) -> Result<(), Fail> {
+    let pieces = Pieces::from_vec(Vec::new(rt.alloc()));
+    let pieces = Pieces::from_vec(pieces.into_vec());
+    assert_eq!(rt; pieces.as_slice().len(), 0);
+    Ok(())
+}

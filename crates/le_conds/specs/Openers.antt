@@ -1,0 +1,90 @@
+-- The words that open a scope, and the beginnings of lines: this project's profile.
+use Rattle.std.specs.Prelude.{ℕ, zero, suc, ◌+◌, ◌-◌, ◌==◌, ◌&&◌, ◌||◌, Bool, true, false, not, if◌then◌else◌, nat_le, codes, Option, None, Some}
+use Rattle.le_layout.specs.declared.layout.Layout.{Layout}
+use Rattle.le_layout.specs.Words.{token_of, has_word}
+
+-- a token is the first of its line where it is the first of all, or the token before it has another line
+unfoldable pub is_first : Layout → ℕ → Bool
+is_first layout k = (k == 0) || not ((token_of layout (k - 1)).line == (token_of layout k).line)
+
+-- the first token of the line of a token
+unfoldable pub line_begin : Layout → ℕ → ℕ
+line_begin layout zero = zero
+line_begin layout (suc k) = if is_first layout (suc k) then suc k else line_begin layout k
+
+-- the indent of the line of a token: the column, from 0, of the line's first token
+abbrev pub indent : Layout → ℕ → ℕ
+indent layout k = (token_of layout (line_begin layout k)).column - 1
+
+-- `it is not the case that`
+unfoldable pub says_negation : Layout → ℕ → Bool
+says_negation layout k = has_word layout k (codes "it") && (has_word layout (k + 1) (codes "is") && (has_word layout (k + 2) (codes "not") && (has_word layout (k + 3) (codes "the") && (has_word layout (k + 4) (codes "case") && has_word layout (k + 5) (codes "that")))))
+
+-- `for all cases in which`
+unfoldable pub says_for_all : Layout → ℕ → Bool
+says_for_all layout k = has_word layout k (codes "for") && (has_word layout (k + 1) (codes "all") && (has_word layout (k + 2) (codes "cases") && (has_word layout (k + 3) (codes "in") && has_word layout (k + 4) (codes "which"))))
+
+-- `it is the case that`
+unfoldable pub says_marker : Layout → ℕ → Bool
+says_marker layout k = has_word layout k (codes "it") && (has_word layout (k + 1) (codes "is") && (has_word layout (k + 2) (codes "the") && (has_word layout (k + 3) (codes "case") && has_word layout (k + 4) (codes "that"))))
+
+-- the tokens of a span begin with the words of a negation
+unfoldable pub opens_negation : Layout → ℕ → ℕ → Bool
+opens_negation layout from to = nat_le 6 (to - from) && says_negation layout from
+
+-- the tokens of a span begin with the words of a `for all`
+unfoldable pub opens_for_all : Layout → ℕ → ℕ → Bool
+opens_for_all layout from to = nat_le 5 (to - from) && says_for_all layout from
+
+-- the tokens of a span begin with the words of a marker, which stand together on one line
+unfoldable pub opens_marker : Layout → ℕ → ℕ → Bool
+opens_marker layout from to = nat_le 5 (to - from) && (says_marker layout from && ((token_of layout from).line == (token_of layout (from + 4)).line))
+
+-- `sum`, `number` or `greatest`
+unfoldable pub is_fold_word : Layout → ℕ → Bool
+is_fold_word layout k = has_word layout k (codes "sum") || (has_word layout k (codes "number") || has_word layout k (codes "greatest"))
+
+-- `is the sum of each`, or `number` or `greatest` in place of `sum`
+unfoldable pub says_each : Layout → ℕ → Bool
+says_each layout k = has_word layout k (codes "is") && (has_word layout (k + 1) (codes "the") && (is_fold_word layout (k + 2) && (has_word layout (k + 3) (codes "of") && has_word layout (k + 4) (codes "each"))))
+
+-- `such that`
+unfoldable pub says_such_that : Layout → ℕ → Bool
+says_such_that layout k = has_word layout k (codes "such") && has_word layout (k + 1) (codes "that")
+
+-- the place behind the words `is the sum of each` of content that begins here
+unfoldable pub ends_each : Layout → ℕ → ℕ → Bool
+ends_each layout from k = nat_le 5 (k - from) && says_each layout (k - 5)
+
+-- the place behind the words `such that` that stand behind another place
+unfoldable pub ends_such_that : Layout → ℕ → ℕ → Bool
+ends_such_that layout from k = nat_le 2 (k - from) && says_such_that layout (k - 2)
+
+-- the place that was found, or else this place where it is so
+abbrev pub or_here : Option ℕ → Bool → ℕ → Option ℕ
+or_here (Some found) is_so k = Some found
+or_here None true k = Some k
+or_here None false k = None
+
+-- the first of so many places behind a place where it is so
+unfoldable pub first_behind : (ℕ → Bool) → ℕ → ℕ → Option ℕ
+first_behind is_so from zero = None
+first_behind is_so from (suc n) = or_here (first_behind is_so from n) (is_so (from + suc n)) (from + suc n)
+
+-- the place behind the first `is the sum of each` of a span
+abbrev pub each_end : Layout → ℕ → ℕ → Option ℕ
+each_end layout from to = first_behind (ends_each layout from) from (to - from)
+
+-- the place behind the first `such that` between two places
+abbrev pub such_that_end : Layout → Option ℕ → ℕ → Option ℕ
+such_that_end layout None to = None
+such_that_end layout (Some from) to = first_behind (ends_such_that layout from) from (to - from)
+
+-- The place behind a gather's opener in a span: the first `is the sum of each`, and behind it the first `such that`.
+abbrev pub gather_end : Layout → ℕ → ℕ → Option ℕ
+gather_end layout from to = such_that_end layout (each_end layout from to) to
+
+-- whether this place was found
+abbrev pub is_place : Option ℕ → ℕ → Bool
+is_place None k = false
+is_place (Some found) k = found == k

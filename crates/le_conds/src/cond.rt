@@ -1,0 +1,83 @@
+ghost use Rattle.std.specs.Prelude.{◌≡◌};
+
+use le_base::{FoldKind, Span};
+use std::marker::Model;
+
+/// What a condition is, with the number of conditions below it.
+#[derive(Clone, Copy, Debug)]
+pub enum CondKind {
+    /// A sentence of these tokens; nothing is below it.
+    Sentence(Span),
+    /// All of so many conditions, at least two.
+    And(u32),
+    /// One of so many conditions, at least two. It doesn't arise yet.
+    Or(u32),
+    /// Not the one condition below it. It doesn't arise yet.
+    Not,
+    /// In all cases of the first condition below it the second. It doesn't arise yet.
+    ForAll,
+    /// A result gathered from all cases of the one condition below it. It doesn't arise yet.
+    Gather {
+        /// What is made of the values.
+        fold: FoldKind,
+        /// The tokens of the result.
+        result: Span,
+        /// The name of the value.
+        name: Span,
+    },
+}
+
+/// A condition.
+#[derive(Clone, Copy, Debug)]
+pub struct Cond {
+    /// What it is.
+    pub kind: CondKind,
+    /// The first token of its sentence or of its opener, counted from 0; for `And` and `Or` the `at` of
+    /// the first condition below it.
+    pub at: u32,
+}
+
+/// Conditions one after another, which contracts see as a list.
+#[derive(Debug, Drop)]
+pub struct Nodes {
+    items: Vec<Cond>,
+}
+
+impl Model for Nodes {
+    ghost use Rattle.std.specs.Prelude.{List};
+    ghost use Rattle.le_conds.specs.declared.cond.Cond.{Cond};
+
+    ghost Value = { List Cond };
+
+    ghost view = { λ n. n.items.items };
+}
+
+impl Nodes {
+    /// The conditions of a vector. It takes no memory.
+    pub fn from_vec(items: Vec<Cond>) -> Self
+        ensures { result ≡ items.items }
+    {
+        Nodes { items }
+    }
+
+    /// The vector of the conditions. It takes no memory.
+    pub fn into_vec(self) -> Vec<Cond>
+        ensures { result.items ≡ self }
+    {
+        self.items
+    }
+
+    /// The conditions, borrowed. It takes no memory.
+    pub fn as_slice(&self) -> &[Cond]
+        ensures { result.now ≡ self.now }
+    {
+        self.items.as_slice()
+    }
+}
+
+/// The conditions of a rule or of a query: one tree in preorder.
+#[derive(Debug, Drop)]
+pub struct Conds {
+    /// The tree's conditions.
+    pub nodes: Nodes,
+}

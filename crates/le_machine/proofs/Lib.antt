@@ -1,0 +1,5 @@
+pub mod Advancing
+pub mod Built
+pub mod Parts
+pub mod Raising
+pub mod Visiting

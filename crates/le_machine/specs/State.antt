@@ -1,0 +1,121 @@
+-- What contracts see of a machine.
+use Rattle.std.specs.Prelude.{◌≡◌, ℕ, ◌+◌, ◌-◌, ◌≤◌, ◌<◌, ◌≢◌, List, [], ◌∷◌, ◌++◌, length, slice_get, Option, Some, option_map}
+use Rattle.le_terms.specs.Tree.{Tree}
+use Rattle.le_terms.specs.Variables.{canonical_of}
+use Rattle.le_terms.specs.Program.{IsProgram}
+use Rattle.le_terms.specs.declared.program.Program.{Program}
+use Rattle.le_proofs.specs.declared.next.Next.{Next}
+use Rattle.le_proofs.specs.declared.next.Next.TheVariants.{Answer, Done, Floundered, OutOfRange, Spent}
+use Rattle.le_proofs.specs.Search.{Leaf, before_visit, search_of, answers_of, end_of, used_of, selections_at, next_of, under_way}
+use Rattle.le_machine.specs.declared.phase.Phase.{Phase}
+use Rattle.le_machine.specs.declared.phase.Phase.TheVariants.{Fresh, Told, Lost}
+use Rattle.le_machine.specs.declared.goals.Choice.{Choice}
+use Rattle.le_machine.specs.declared.goals.Found.{Found}
+use Rattle.le_machine.specs.declared.goals.Found.TheVariants.{Leaf as Found_leaf, End}
+use Rattle.le_machine.specs.Choices.{all_goals, AreLow}
+
+-- a machine as contracts see it: its program and budget, how many answers it gave, and what its calls of `next` answered
+pub record Shown : Type 0 where
+  pub program : Program
+  pub budget : ℕ
+  pub given : ℕ
+  pub phase : Phase
+
+-- a machine that was made and not asked yet
+abbrev pub started : Program → ℕ → Shown
+started program budget = record { program = program; budget = budget; given = 0; phase = Fresh }
+
+-- what a machine that didn't meet want of memory answers next
+abbrev pub next_answer : Shown → Next
+next_answer shown = next_of shown.program shown.budget shown.given
+
+-- how many answers were given after such a one
+abbrev pub given_after : Next → ℕ → ℕ
+given_after Answer given = given + 1
+given_after Done given = given
+given_after (Floundered line) given = given
+given_after (OutOfRange line) given = given
+given_after Spent given = given
+
+-- a machine after its next answer
+abbrev pub told : Shown → Shown
+told shown = record { program = shown.program; budget = shown.budget; given = given_after (next_answer shown) shown.given; phase = Told (next_answer shown) }
+
+-- a machine after want of memory
+abbrev pub lost : Shown → Shown
+lost shown = record { program = shown.program; budget = shown.budget; given = shown.given; phase = Lost }
+
+-- the success leaf that the last answer is
+abbrev pub last_leaf : Shown → Option Leaf
+last_leaf shown = slice_get (answers_of shown.program shown.budget) (shown.given - 1)
+
+-- the values of the last answer: its terms, with their variables numbered from 1 by first occurrence
+abbrev pub last_values : Shown → Option (List Tree)
+last_values shown = option_map (λ leaf. canonical_of leaf.terms) (last_leaf shown)
+
+-- how many selections were made up to what the last call of `next` answered: none before the first, and after want of memory nothing is said
+abbrev pub Selections : Shown → Phase → ℕ → Type 0
+Selections shown Fresh n = n ≡ 0
+Selections shown (Told Answer) n = selections_at shown.program shown.budget (shown.given - 1) ≡ Some n
+Selections shown (Told Done) n = n ≡ used_of shown.program shown.budget
+Selections shown (Told (Floundered line)) n = n ≡ used_of shown.program shown.budget
+Selections shown (Told (OutOfRange line)) n = n ≡ used_of shown.program shown.budget
+Selections shown (Told Spent) n = n ≡ used_of shown.program shown.budget
+Selections shown Lost n = Unit {0}
+
+-- the leaves given so far, before what the open goals and the selections left still give, are the whole search
+pub record IsUnderWay (program : Program) (budget given left : ℕ) (choices : List Choice) (leaves : List Leaf) : Type 0 where
+  pub count : length leaves ≡ given
+  pub whole : before_visit leaves (under_way program (all_goals program.clauses choices []) left) ≡ search_of program budget
+  pub fits : left ≤ budget
+  pub low : AreLow left choices
+
+-- the machine gave a leaf with these terms
+pub record IsAtLeaf (program : Program) (budget given left : ℕ) (choices : List Choice) (terms : List Tree) : Type 0 where
+  pub before : List Leaf
+  pub way : IsUnderWay program budget given left choices (before ++ record { terms = terms; left = left } ∷ [])
+
+-- the machine gave the end
+pub record IsAtEnd (program : Program) (budget given left : ℕ) (next : Next) : Type 0 where
+  pub count : length (answers_of program budget) ≡ given
+  pub ending : end_of program budget ≡ next
+  pub selections : (search_of program budget).left ≡ left
+
+-- what holds of the parts of a machine that gave this
+abbrev pub StandsAt : Next → Program → ℕ → ℕ → ℕ → List Choice → List Tree → Type 0
+StandsAt Answer program budget given left choices terms = IsAtLeaf program budget given left choices terms
+StandsAt Done program budget given left choices terms = IsAtEnd program budget given left Done
+StandsAt (Floundered line) program budget given left choices terms = IsAtEnd program budget given left (Floundered line)
+StandsAt (OutOfRange line) program budget given left choices terms = IsAtEnd program budget given left (OutOfRange line)
+StandsAt Spent program budget given left choices terms = IsAtEnd program budget given left Spent
+
+-- what holds of the parts of a machine
+abbrev pub Stands : Phase → Program → ℕ → ℕ → ℕ → List Choice → List Tree → Type 0
+Stands Fresh program budget given left choices terms = (given ≡ 0) × (left ≡ budget) × (choices ≡ [])
+Stands (Told next) program budget given left choices terms = StandsAt next program budget given left choices terms
+Stands Lost program budget given left choices terms = Unit {0}
+
+-- a machine's program and budget are well formed, and its parts stand so
+pub record IsMachine (program : Program) (budget given : ℕ) (phase : Phase) (left : ℕ) (choices : List Choice) (terms : List Tree) : Type 0 where
+  pub program_ : IsProgram program
+  pub small : budget ≤ 1000000
+  pub fits : left ≤ budget
+  pub stands : Stands phase program budget given left choices terms
+
+-- a search can be asked for its next answer: its numbers of next variables are so low
+abbrev pub CanAdvanceAfter : Next → ℕ → List Choice → Type 0
+CanAdvanceAfter Answer left choices = AreLow left choices
+CanAdvanceAfter Done left choices = Unit {0}
+CanAdvanceAfter (Floundered line) left choices = Unit {0}
+CanAdvanceAfter (OutOfRange line) left choices = Unit {0}
+CanAdvanceAfter Spent left choices = Unit {0}
+
+abbrev pub CanAdvance : Phase → ℕ → List Choice → Type 0
+CanAdvance Fresh left choices = (left ≤ 1000000) × (choices ≡ [])
+CanAdvance (Told next) left choices = CanAdvanceAfter next left choices
+CanAdvance Lost left choices = Unit {0}
+
+-- what a search that is asked for its next answer finds: a leaf more, or the end
+abbrev pub Advances : Program → ℕ → ℕ → Found → ℕ → List Choice → Type 0
+Advances program budget given (Found_leaf terms) left choices = (given < length (answers_of program budget)) × IsAtLeaf program budget (given + 1) left choices terms.items
+Advances program budget given (End next) left choices = (next ≢ Answer) × IsAtEnd program budget given left next

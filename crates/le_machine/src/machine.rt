@@ -1,0 +1,152 @@
+ghost use Rattle.std.specs.Prelude.{◌≡◌, ◌≤◌, ℕ, List, Some, IfOk, OnOk, OnErr, IsErr};
+ghost use Rattle.le_terms.specs.Program.{IsProgram};
+ghost use Rattle.le_proofs.specs.Goals.{HasAtomsAlone};
+ghost use Rattle.le_machine.specs.declared.phase.Phase.TheVariants.{Told, Lost};
+ghost use Rattle.le_proofs.specs.declared.next.Next.TheVariants.{Answer};
+ghost use Rattle.le_machine.specs.State.{started, next_answer, told, lost, last_values, Selections, Stands, CanAdvance, Advances};
+ghost use Rattle.le_terms.specs.Tree.{Tree};
+
+use crate::choices::{find, next_goal};
+use crate::goals::{Choice, Found};
+use crate::phase::Phase;
+use crate::starting::root;
+use le_proofs::Next;
+use le_terms::{Program, Term, canonical};
+use std::alloc::{AllocError, Global};
+use std::marker::Model;
+
+/// The search of a program, which gives one answer after another. It visits the program's search tree
+/// depth first and from left to right, tries clauses in their order, and takes one selection from its
+/// budget for each literal that it selects.
+#[derive(Drop)]
+pub struct Machine<'p> {
+    program: &'p Program,
+    budget: u32,
+    given: u64,
+    phase: Phase,
+    left: u32,
+    choices: Vec<Choice>,
+    terms: Vec<Term>,
+}
+
+impl<'p> Model for Machine<'p> {
+    ghost use Rattle.std.specs.Coded.{codes};
+    ghost use Rattle.le_terms.specs.Tree.{tree_code};
+    ghost use Rattle.le_machine.specs.State.{Shown, IsMachine};
+
+    ghost Value = { Shown };
+
+    ghost coded = { Prim.hlevel (codes, tree_code) };
+
+    ghost view = { λ m. record { program = m.program.now; budget = m.budget; given = m.given; phase = m.phase } };
+
+    ghost invariant = { λ m. IsMachine m.program.now m.budget m.given m.phase m.left m.choices.items m.terms.items };
+}
+
+impl<'p> Machine<'p> {
+    /// The search of a program with a budget of 1 to 1,000,000 selections. The program is well formed,
+    /// and each literal of it is an atom, since this version knows no others. The error is want of
+    /// memory.
+    pub fn start(
+        alloc: Global,
+        program: &'p Program,
+        budget: u32,
+    ) -> Result<Machine<'p>, AllocError>
+        requires program { IsProgram program.now }
+        requires atoms { HasAtomsAlone program.now }
+        requires some { 1 ≤ budget }
+        requires most { budget ≤ 1000000 }
+        ensures { IfOk result (λ machine. machine ≡ started program.now budget) }
+    {
+        Ok(Machine {
+            program,
+            budget,
+            given: 0,
+            phase: Phase::Fresh,
+            left: budget,
+            choices: Vec::new(alloc),
+            terms: Vec::new(alloc),
+        })
+    }
+
+    /// The next answer: `Answer` while the search has answers that weren't given, in their order, and
+    /// then how it ends. After an end it repeats that end. The error is want of memory, after which
+    /// each further call answers it too.
+    pub fn next(&mut self, alloc: Global) -> Result<Next, AllocError>
+        ensures next { IfOk result (λ next. next ≡ next_answer self.old) }
+        ensures machine { OnOk result (self.new ≡ told self.old) }
+        ensures memory { OnErr result (self.new ≡ lost self.old) }
+        ensures for_good { self.old.phase ≡ Lost → IsErr result }
+    {
+        let found = advance(
+            alloc,
+            self.program,
+            self.phase,
+            &mut self.choices,
+            &mut self.left,
+        );
+        match found {
+            Ok(Found::Leaf(terms)) => {
+                self.terms = terms;
+                self.given += 1;
+                self.phase = Phase::Told(Next::Answer);
+                Ok(Next::Answer)
+            }
+            Ok(Found::End(next)) => {
+                self.phase = Phase::Told(next);
+                Ok(next)
+            }
+            Err(error) => {
+                self.phase = Phase::Lost;
+                Err(error)
+            }
+        }
+    }
+
+    /// The values of the last answer: the terms of the variables that are asked for, with the variables
+    /// in them numbered from 1 by first occurrence over all of them. The last call of `next` answered
+    /// `Answer`. The error is want of memory.
+    pub fn values(&self, alloc: Global) -> Result<Vec<Term>, AllocError>
+        requires { self.now.phase ≡ Told Answer }
+        ensures { IfOk result (λ values. last_values self.now ≡ Some values.items) }
+    {
+        canonical(alloc, &self.terms)
+    }
+
+    /// How many selections the search made up to the answer or the end that the last call of `next`
+    /// gave, and 0 before the first. After want of memory it is some number. It takes no memory.
+    pub fn selections(&self) -> u32
+        ensures { Selections self.now self.now.phase result }
+    {
+        self.budget - self.left
+    }
+}
+
+// What the search finds next: after an answer or at the start a leaf or the end, after an end that end,
+// and after want of memory want of memory.
+fn advance(
+    alloc: Global,
+    program: &Program,
+    phase: Phase,
+    choices: &mut Vec<Choice>,
+    left: &mut u32,
+) -> Result<Found, AllocError>
+    requires program { IsProgram program.now }
+    requires low { CanAdvance phase left.old choices.old.items }
+    ensures found { IfOk result (λ found. (budget given : ℕ) (terms : List Tree) → budget ≤ 1000000 → Stands phase program.now budget given left.old choices.old.items terms → Advances program.now budget given found left.new choices.new.items) }
+    ensures fewer { left.new ≤ left.old }
+    ensures for_good { phase ≡ Lost → IsErr result }
+{
+    match phase {
+        Phase::Fresh => {
+            let goal = root(alloc, program)?;
+            find(alloc, program, choices, left, Some(goal))
+        }
+        Phase::Told(Next::Answer) => {
+            let goal = next_goal(alloc, program.clauses.as_slice(), *left, choices)?;
+            find(alloc, program, choices, left, goal)
+        }
+        Phase::Told(next) => Ok(Found::End(next)),
+        Phase::Lost => Err(AllocError),
+    }
+}

@@ -1,0 +1,3 @@
+mod Examples
+pub mod LengthLemmas
+pub mod TokenLemmas

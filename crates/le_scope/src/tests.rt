@@ -1,0 +1,124 @@
+use crate::{Intro, PhraseForm, Scope, phrase_name, shape};
+use le_base::Span;
+use le_layout::scan;
+use std::alloc::{AllocError, Global};
+use std::test::Fail;
+
+// The form of the phrase that a text is, and the name that its tokens spell.
+fn told(alloc: Global, text: &str) -> Result<String, AllocError> {
+    if text.len() > 1000 {
+        return String::from_str(alloc, "too long");
+    }
+    let Ok(layout) = scan(alloc, text.as_bytes()) else {
+        return String::from_str(alloc, "no layout");
+    };
+    let to = layout.tokens.as_slice().len();
+    if to > 1000 {
+        return String::from_str(alloc, "too many");
+    }
+    let span = Span {
+        from: 0,
+        to: to as u32,
+    };
+    let name = phrase_name(alloc, &layout, span)?;
+    let name = name.as_str();
+    let form = match shape(alloc, &layout, span)? {
+        Some(PhraseForm::A) => "a",
+        Some(PhraseForm::The) => "the",
+        Some(PhraseForm::Which) => "which",
+        Some(PhraseForm::Constant) => "constant",
+        Some(_) => "other",
+        None => "none",
+    };
+    format!(in alloc; "{form}: {name}")
+}
+
+const PHRASES: [(&str, &str); 39] = [
+    ("", "none: "),
+    ("\"of the: 50%\"", "other: of the: 50%"),
+    ("\"a\" \"b\"", "none: a b"),
+    ("R&D + O’Neill", "none: R&D + O’Neill"),
+    ("R&D O’Neill", "constant: R&D O’Neill"),
+    ("the -", "none: the -"),
+    ("Bob", "constant: Bob"),
+    ("  Bob \n Smith", "constant: Bob Smith"),
+    ("a", "none: a"),
+    ("A", "none: A"),
+    ("the", "none: the"),
+    ("which", "none: which"),
+    ("a car", "a: a car"),
+    ("An apple", "a: An apple"),
+    ("tHe car", "the: tHe car"),
+    ("WHICH car", "which: WHICH car"),
+    ("the A team", "the: the A team"),
+    ("the a team", "none: the a team"),
+    ("vitamin A", "constant: vitamin A"),
+    ("vitamin a", "none: vitamin a"),
+    ("vitamin an", "none: vitamin an"),
+    ("man An", "constant: man An"),
+    ("A A", "a: A A"),
+    ("a the car", "a: a the car"),
+    ("car the car", "constant: car the car"),
+    ("the which car", "none: the which car"),
+    ("car Which car", "none: car Which car"),
+    ("what If", "none: what If"),
+    ("now AND then", "none: now AND then"),
+    ("one or more", "none: one or more"),
+    ("a each", "none: a each"),
+    ("Another car", "none: Another car"),
+    ("every car", "none: every car"),
+    (
+        "It is NOT the case that x",
+        "none: It is NOT the case that x",
+    ),
+    ("it is the Case that", "none: it is the Case that"),
+    ("it is the case", "constant: it is the case"),
+    ("a: b", "none: a : b"),
+    (
+        "b c d e f g h i j k l m",
+        "constant: b c d e f g h i j k l m",
+    ),
+    (
+        "b c d e f g h i j k l m n",
+        "none: b c d e f g h i j k l m n",
+    ),
+];
+
+#[test]
+fn forms_of_phrases(rt: HostRuntime) -> Result<(), Fail> {
+    let alloc = rt.alloc();
+    for (text, expected) in PHRASES {
+        let found = told(alloc, text)?;
+        assert_eq!(rt; found.as_str(), expected);
+    }
+    Ok(())
+}
+
+const INTRODUCED: [(&str, Intro); 6] = [
+    ("Car", Intro::New(0)),
+    ("cAR", Intro::Again),
+    ("big car", Intro::New(1)),
+    ("cars", Intro::Full),
+    ("BIG car", Intro::Again),
+    ("cars", Intro::Full),
+];
+
+#[test]
+fn names_in_a_scope(rt: HostRuntime) -> Result<(), Fail> {
+    let alloc = rt.alloc();
+    let mut scope = Scope::with_limit(alloc, 2);
+    for (name, expected) in INTRODUCED {
+        let found = scope.introduce(name)?;
+        assert!(rt; found == expected);
+    }
+    assert_eq!(rt; scope.count(), 2);
+    assert!(rt; scope.refer("CAR") == Some(0) && scope.refer("Big Car") == Some(1));
+    assert!(rt; scope.refer("cars").is_none());
+    scope.truncate(1);
+    assert!(rt; scope.refer("big car").is_none());
+    assert_eq!(rt; scope.count(), 1);
+    if scope.count() == 1 {
+        assert_eq!(rt; scope.name(0), "Car");
+    }
+    Ok(())
+}
