@@ -1,7 +1,7 @@
 -- The number and the name that a refusal shows for its code: this project's profile.
 use Rattle.std.specs.Prelude.{ℕ, List, codes}
 use Rattle.le_base.specs.declared.code.Code.{Code}
-use Rattle.le_base.specs.declared.code.Code.TheVariants.{TooLong, NotUtf8, BadCharacter, OpenQuote, LongSentence, UnknownHeader, NoStop, BadTemplate, SameTemplate, NoReading, Ambiguous, Dangling, Again, WhichHere, MixedConnectives, BadIndent, NegationScope, PredefinedHead, SameName, TooMany, NoScenario, NoQuery, BadDate, BadNumber, Unbuilt}
+use Rattle.le_base.specs.declared.code.Code.TheVariants.{TooLong, NotUtf8, BadCharacter, OpenQuote, LongSentence, UnknownHeader, NoStop, BadTemplate, SameTemplate, NoReading, Ambiguous, Dangling, Again, WhichHere, MixedConnectives, BadIndent, NegationScope, PredefinedHead, SameName, TooMany, NoScenario, NoQuery, BadDate, BadNumber}
 
 -- the number of each code, from 1 in this order
 abbrev pub code_number : Code → ℕ
@@ -29,7 +29,6 @@ code_number NoScenario = 21
 code_number NoQuery = 22
 code_number BadDate = 23
 code_number BadNumber = 24
-code_number Unbuilt = 25
 
 -- the name of each code
 abbrev pub code_name : Code → List ℕ
@@ -57,4 +56,3 @@ code_name NoScenario = codes "NoScenario"
 code_name NoQuery = codes "NoQuery"
 code_name BadDate = codes "BadDate"
 code_name BadNumber = codes "BadNumber"
-code_name Unbuilt = codes "Unbuilt"

@@ -21,7 +21,7 @@ abbrev pub Writes : Option (List ℕ) → Option (List ℕ) → Took → List �
 Writes old new (took.Bytes n) bytes = (0 < n) × (n ≤ length bytes) × Appends old new (take n bytes)
 Writes old new took.Failed bytes = Keeps old new
 
--- Some first part of the bytes was written.
+-- A prefix of the bytes was written.
 abbrev pub AppendsPrefix : Option (List ℕ) → Option (List ℕ) → List ℕ → Type 0
 AppendsPrefix old new bytes = (n : ℕ) × Appends old new (take n bytes)
 

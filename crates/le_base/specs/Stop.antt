@@ -9,7 +9,7 @@ use Rattle.le_base.specs.declared.stop.Stop.TheVariants.{Refused, Memory}
 abbrev pub refusal_at : Code → ℕ → ℕ → Refusal
 refusal_at code line column = record { code = code; line = line; column = column; first = []; second = [] }
 
--- What a call returned, seen by view, is what the definition gives: its value, or its refusal. Want of memory alone is free.
+-- What a call returned, seen by view, is what the definition gives: its value, or its refusal. Out of memory alone is free.
 abbrev pub Gives : {X Y : Type 0} → (X → Y) → Result X Stop → Result Y Refusal → Type 0
 Gives view (Ok x) given = given ≡ Ok (view x)
 Gives view (Err (Refused refusal)) given = given ≡ Err refusal

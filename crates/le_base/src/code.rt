@@ -52,12 +52,10 @@ pub enum Code {
     BadDate,
     /// A word looks like a number and is none.
     BadNumber,
-    /// The text has a form that this version doesn't read yet.
-    Unbuilt,
 }
 
 impl Code {
-    /// The number that a refusal shows, from 1. It takes no memory.
+    /// The number that a refusal shows, from 1.
     pub fn number(self) -> u8
         ensures { result ≡ code_number self }
     {
@@ -86,11 +84,10 @@ impl Code {
             Code::NoQuery => 22,
             Code::BadDate => 23,
             Code::BadNumber => 24,
-            Code::Unbuilt => 25,
         }
     }
 
-    /// The name that a refusal shows. It takes no memory.
+    /// The name that a refusal shows.
     pub fn name(self) -> &'static str
         ensures { result.now ≡ code_name self }
     {
@@ -119,7 +116,6 @@ impl Code {
             Code::NoQuery => "NoQuery",
             Code::BadDate => "BadDate",
             Code::BadNumber => "BadNumber",
-            Code::Unbuilt => "Unbuilt",
         }
     }
 }

@@ -1,4 +1,4 @@
-ghost use Rattle.std.specs.Prelude.{◌≡◌, ℕ, ◌<◌, ◌≤◌, [], List, length, Option, IfOk, map};
+ghost use Rattle.std.specs.Prelude.{◌≡◌, ◌≢◌, ℕ, ◌<◌, ◌≤◌, [], List, length, Option, IfOk, map};
 ghost use Rattle.le_base.specs.Outside.{Reads, Writes, Rose};
 ghost use Rattle.le_base.specs.Memory.{next_got, source_after, next_took, sink_after};
 
@@ -30,7 +30,7 @@ impl Model for MemSource {
 
 impl MemSource {
     /// A source of these bytes, at most `piece` of them a call, whose calls with a number in `fails`
-    /// fail. Calls are numbered from 1, and the number stands still at 2^64 - 1. It takes no memory.
+    /// fail. Calls are numbered from 1, and the number stands still at 2^64 - 1.
     pub fn new(bytes: Vec<u8>, piece: usize, fails: Vec<u64>) -> Self
         requires { 0 < piece }
         ensures { result ≡ record { left = bytes.items; piece = piece; fails = fails.items; calls = 0; faults = 0 } }
@@ -54,13 +54,14 @@ impl Source for MemSource {
     ghost left = { λ s. Some s.left };
 
     /// The least of `piece`, the buffer's length and the bytes left, or the end, or a failure where
-    /// this call is to fail. It takes no memory.
+    /// this call is to fail.
     fn read(&mut self, buffer: &mut [u8]) -> Got
         requires { 0 < length buffer.old }
         ensures answer { result ≡ next_got self.old (length buffer.old) }
         ensures after { self.new ≡ source_after self.old result }
         ensures content { Reads (Some self.old.left) (Some self.new.left) result buffer.new }
         ensures failed { result ≡ Got.Failed → Rose self.old.faults self.new.faults }
+        ensures kept { result ≢ Got.Failed → self.new.faults ≡ self.old.faults }
         ensures count { self.old.faults ≤ self.new.faults }
     {
         self.calls = self.calls.saturating_add(1);
@@ -106,7 +107,7 @@ impl Model for MemSink {
 impl MemSink {
     /// A sink for at most `room` bytes, which are reserved, and at most `piece` of them a call, whose
     /// calls with a number in `fails` fail. Calls are numbered from 1, and the number stands still at
-    /// 2^64 - 1. The error is want of memory.
+    /// 2^64 - 1.
     pub fn new(
         alloc: Global,
         room: usize,
@@ -126,7 +127,7 @@ impl MemSink {
         })
     }
 
-    /// What was written. It takes no memory.
+    /// What was written.
     pub fn bytes(&self) -> &[u8]
         ensures { result.now ≡ self.now.written }
     {
@@ -142,13 +143,14 @@ impl Sink for MemSink {
     ghost written = { λ s. Some s.written };
 
     /// Takes the least of `piece`, the slice's length and the room left, or fails where this call is
-    /// to fail or no room is left. It takes no memory.
+    /// to fail or no room is left.
     fn write(&mut self, bytes: &[u8]) -> Took
         requires { 0 < length bytes.now }
         ensures answer { result ≡ next_took self.old (length bytes.now) }
         ensures after { self.new ≡ sink_after self.old result bytes.now }
         ensures content { Writes (Some self.old.written) (Some self.new.written) result bytes.now }
         ensures failed { result ≡ Took.Failed → Rose self.old.faults self.new.faults }
+        ensures kept { result ≢ Took.Failed → self.new.faults ≡ self.old.faults }
         ensures count { self.old.faults ≤ self.new.faults }
     {
         self.calls = self.calls.saturating_add(1);

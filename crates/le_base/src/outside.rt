@@ -1,4 +1,4 @@
-ghost use Rattle.std.specs.Prelude.{◌≡◌, ℕ, ◌<◌, ◌≤◌, List, length, Option};
+ghost use Rattle.std.specs.Prelude.{◌≡◌, ◌≢◌, ℕ, ◌<◌, ◌≤◌, List, length, Option};
 ghost use Rattle.le_base.specs.Outside.{Reads, Writes, Rose};
 
 /// What a read answered.
@@ -30,12 +30,13 @@ pub trait Source {
     ghost left: { Self → Option (List ℕ) };
 
     /// Reads the first bytes left into the front of the buffer, which has room for at least one.
-    /// It answers `Failed` only where the count of faults rose, and `End`, where the bytes are told,
-    /// only where none is left.
+    /// `Failed` raises the count of faults, and every other answer leaves it as it was. Where the
+    /// bytes are told, `End` comes only where none is left.
     fn read(&mut self, buffer: &mut [u8]) -> Got
         requires { 0 < length buffer.old }
         ensures content { Reads (left self.old) (left self.new) result buffer.new }
         ensures failed { result ≡ Got.Failed → Rose (faults self.old) (faults self.new) }
+        ensures kept { result ≢ Got.Failed → faults self.new ≡ faults self.old }
         ensures count { faults self.old ≤ faults self.new };
 }
 
@@ -47,11 +48,12 @@ pub trait Sink {
     /// What was written, where the sink tells it.
     ghost written: { Self → Option (List ℕ) };
 
-    /// Writes some of the first bytes, of which there is at least one. It answers `Failed` only where
-    /// the count of faults rose.
+    /// Writes some of the first bytes, of which there is at least one. `Failed` raises the count of
+    /// faults, and every other answer leaves it as it was.
     fn write(&mut self, bytes: &[u8]) -> Took
         requires { 0 < length bytes.now }
         ensures content { Writes (written self.old) (written self.new) result bytes.now }
         ensures failed { result ≡ Took.Failed → Rose (faults self.old) (faults self.new) }
+        ensures kept { result ≢ Took.Failed → faults self.new ≡ faults self.old }
         ensures count { faults self.old ≤ faults self.new };
 }

@@ -12,7 +12,7 @@ pub enum ReadStop {
     Fault,
     /// The source holds more bytes than the limit.
     TooLong,
-    /// Memory wasn't found.
+    /// Out of memory.
     Memory,
 }
 
@@ -23,13 +23,15 @@ pub struct WriteFault;
 /// The most bytes that one read asks for.
 const PIECE: usize = 8192;
 
-/// All bytes that are left in the source, read to its end. `Fault` comes only where the source's count
-/// of faults rose, and `TooLong` exactly where one byte past the limit was read. After a refusal the
-/// bytes that were read are gone from the source.
+/// All bytes that are left in the source, read to its end. `Fault` comes exactly where a read failed,
+/// which raises the source's count of faults: every other answer leaves the count as it was. `TooLong`
+/// comes exactly where one byte past the limit was read. After a refusal the bytes that were read are
+/// gone from the source.
 pub fn read_all<S: Source>(alloc: Global, source: &mut S, limit: usize) -> Result<Vec<u8>, ReadStop>
     ensures all { IfOk result (λ bytes. ReadsAll (S.left source.old) (S.left source.new) bytes.items) }
     ensures within { IfOk result (λ bytes. vec_len bytes ≤ limit) }
     ensures fault { IsErrOf result ReadStop.Fault → Rose (S.faults source.old) (S.faults source.new) }
+    ensures kept { result ≢ Err ReadStop.Fault → S.faults source.new ≡ S.faults source.old }
     ensures too_long { IsErrOf result ReadStop.TooLong → ConsumesExactly (S.left source.old) (S.left source.new) (limit + 1) }
     ensures stopped { result ≢ Err ReadStop.TooLong → ConsumesAtMost (S.left source.old) (S.left source.new) limit }
     ensures count { S.faults source.old ≤ S.faults source.new }
@@ -54,12 +56,13 @@ pub fn read_all<S: Source>(alloc: Global, source: &mut S, limit: usize) -> Resul
     }
 }
 
-/// Writes all the bytes. `WriteFault` comes only where the sink's count of faults rose, and then a
-/// first part of the bytes was written. It takes no memory.
+/// Writes all the bytes, and then the sink's count of faults is as it was. `WriteFault` comes exactly
+/// where a write failed, which raises the count, and then a prefix of the bytes was written.
 pub fn put<K: Sink>(sink: &mut K, bytes: &[u8]) -> Result<(), WriteFault>
     ensures all { OnOk result (Appends (K.written sink.old) (K.written sink.new) bytes.now) }
     ensures part { AppendsPrefix (K.written sink.old) (K.written sink.new) bytes.now }
     ensures fault { OnErr result (Rose (K.faults sink.old) (K.faults sink.new)) }
+    ensures kept { OnOk result (K.faults sink.new ≡ K.faults sink.old) }
     ensures count { K.faults sink.old ≤ K.faults sink.new }
 {
     let mut rest = bytes;

@@ -20,7 +20,7 @@ pub struct Refusal {
 }
 
 impl Refusal {
-    /// A refusal that shows no readings. It takes no memory.
+    /// A refusal that shows no readings.
     pub fn at(alloc: Global, code: Code, line: u32, column: u32) -> Self
         ensures { result ≡ refusal_at code line column }
     {

@@ -18,7 +18,7 @@ impl Model for Text {
 }
 
 impl Text {
-    /// The empty text. It takes no memory.
+    /// The empty text.
     pub fn new(alloc: Global) -> Self
         ensures { result ≡ [] }
     {
@@ -27,7 +27,7 @@ impl Text {
         }
     }
 
-    /// A copy of `s`, or want of memory.
+    /// A copy of `s`.
     pub fn of(alloc: Global, s: &str) -> Result<Self, AllocError>
         ensures { IfOk result (λ text. text ≡ s.now) }
     {
@@ -36,14 +36,14 @@ impl Text {
         })
     }
 
-    /// The text, borrowed. It takes no memory.
+    /// The text, borrowed.
     pub fn as_str(&self) -> &str
         ensures { result.now ≡ self.now }
     {
         self.text.as_str()
     }
 
-    /// Appends the bytes of `s`. After want of memory the text is as before.
+    /// Appends the bytes of `s`. Where memory runs out the text is as before.
     pub fn push_str(&mut self, s: &str) -> Result<(), AllocError>
         ensures ok { OnOk result (self.new ≡ self.old ++ s.now) }
         ensures err { OnErr result (self.new ≡ self.old) }

@@ -1,7 +1,7 @@
 -- One step of each walk over the sentences of rules and queries.
 use Rattle.std.proofs.Common.{◌≡◌, ℕ, ◌+◌, ◌<◌, ◌≤◌, Bool, true, false, cond, Result, Ok, Err, List, [], ◌∷◌, ◌++◌, length, get_or, drop, append_assoc, refl, sym, ap, ◌∙◌}
 use Rattle.std.proofs.lemmas.Bool.{lt-ltb, le-ltb}
-use Rattle.le_base.specs.declared.code.Code.TheVariants.{PredefinedHead, Unbuilt}
+use Rattle.le_base.specs.declared.code.Code.TheVariants.{PredefinedHead}
 use Rattle.le_base.specs.declared.stop.Span.{Span}
 use Rattle.le_base.specs.declared.stop.Refusal.{Refusal}
 use Rattle.le_layout.specs.declared.layout.Layout.{Layout}
@@ -9,42 +9,18 @@ use Rattle.le_layout.specs.declared.token.Token.{Token}
 use Rattle.le_layout.specs.Words.{tokens_of, token_of}
 use Rattle.le_templates.specs.declared.part.Template.{Template}
 use Rattle.le_terms.specs.declared.program.Atom.{Atom}
-use Rattle.le_terms.specs.declared.program.Form.TheVariants.{Pos}
-use Rattle.le_terms.specs.declared.program.Literal.{Literal}
-use Rattle.le_scope.specs.Scopes.{ScopeState}
 use Rattle.le_match.specs.declared.readings.BestReading.{BestReading}
 use Rattle.le_match.specs.declared.readings.BestReading.TheVariants as best
 use Rattle.le_match.specs.Readings.{best_of}
 use Rattle.le_match.specs.Terms.{Found, refused, atom_found, by_best, atom_of}
 use Rattle.le_terms.specs.Tree.{Tree}
-use Rattle.le_clauses.specs.Rules.{new_scope, is_predefined, goes_before, not_predefined, head_of, literal_of, onto_literals, literals_of}
+use Rattle.le_clauses.specs.Rules.{new_scope, is_predefined, goes_before, not_predefined, head_of}
+use Rattle.le_clauses.specs.declared.part.Part.{Part}
 
--- ---- one literal
-
-pub literal_low : (users : List Template) (names : List (List ℕ)) (scope : ScopeState) (query : Bool) (layout : Layout) (span : Span) (f : Found Atom) → atom_of users names scope query layout (tokens_of layout span) ≡ Ok f → f.value.pred < 20 → literal_of users names scope query layout span ≡ refused Unbuilt (token_of layout span.from)
-unfolding literal_of
-literal_low users names scope query layout span f e low =
-    let first = token_of layout span.from in
-    ap (Rattle.le_clauses.specs.Rules.literal_at first) e
-    ∙ ap (λ b. cond b (refused Unbuilt first) (Ok (record { value = record { line = first.line; form = Pos f.value }; names = f.names; scope = f.scope }))) (lt-ltb f.value.pred 20 low)
-
-pub literal_high : (users : List Template) (names : List (List ℕ)) (scope : ScopeState) (query : Bool) (layout : Layout) (span : Span) (f : Found Atom) → atom_of users names scope query layout (tokens_of layout span) ≡ Ok f → 20 ≤ f.value.pred → literal_of users names scope query layout span ≡ Ok (record { value = record { line = (token_of layout span.from).line; form = Pos f.value }; names = f.names; scope = f.scope })
-unfolding literal_of
-literal_high users names scope query layout span f e high =
-    let first = token_of layout span.from in
-    ap (Rattle.le_clauses.specs.Rules.literal_at first) e
-    ∙ ap (λ b. cond b (refused Unbuilt first) (Ok (record { value = record { line = first.line; form = Pos f.value }; names = f.names; scope = f.scope }))) (le-ltb f.value.pred 20 high)
-
-pub literal_err : (users : List Template) (names : List (List ℕ)) (scope : ScopeState) (query : Bool) (layout : Layout) (span : Span) (r : Refusal) → atom_of users names scope query layout (tokens_of layout span) ≡ Err r → literal_of users names scope query layout span ≡ Err r
-unfolding literal_of
-literal_err users names scope query layout span r e = ap (Rattle.le_clauses.specs.Rules.literal_at (token_of layout span.from)) e
-
--- ---- literals
-
--- literals that were found, before those of the conditions behind them
-abbrev pub after_literals : List Literal → Result (Found (List Literal)) Refusal → Result (Found (List Literal)) Refusal
-after_literals done (Ok f) = Ok (record { value = done ++ f.value; names = f.names; scope = f.scope })
-after_literals done (Err r) = Err r
+-- parts that were read, before those of the conditions behind them
+abbrev pub after_parts : List Part → Result (Found (List Part)) Refusal → Result (Found (List Part)) Refusal
+after_parts done (Ok f) = Ok (record { value = done ++ f.value; names = f.names; scope = f.scope })
+after_parts done (Err r) = Err r
 
 -- ---- conclusions
 

@@ -1,5 +1,12 @@
-pub mod Pieces
+pub mod Conditions
+pub mod Groups
+pub mod Walks
+pub mod Occurrences
+pub mod Numbers
+pub mod Makings
+pub mod Shapes
+pub mod Truth
 pub mod Rules
+pub mod Pieces
 pub mod Selection
 pub mod Validity
-pub mod Truth

@@ -1,7 +1,8 @@
--- Rules, facts and queries as clauses and literals (Lloyd, Foundations of Logic Programming, chapter 3, for normal clauses). How they are read is this project's profile.
-use Rattle.std.specs.Prelude.{ℕ, ◌==◌, ◌&&◌, Bool, true, false, nat_lt, if◌then◌else◌, Option, Some, None, Result, Ok, Err, List, [], ◌∷◌, length, flat_map}
+-- How the conclusions and conditions of rules, facts and queries are read: this project's profile.
+use Rattle.std.specs.Prelude.{ℕ, ◌-◌, ◌==◌, ◌&&◌, Bool, false, nat_lt, if◌then◌else◌, Option, Some, None, Result, Ok, Err, List, [], ◌∷◌}
 use Rattle.le_base.specs.declared.code.Code.{Code}
-use Rattle.le_base.specs.declared.code.Code.TheVariants.{PredefinedHead, Unbuilt}
+use Rattle.le_base.specs.declared.code.Code.TheVariants.{NoReading, Again, TooMany, PredefinedHead}
+use Rattle.le_base.specs.declared.stop.FoldKind.{FoldKind}
 use Rattle.le_base.specs.declared.stop.Span.{Span}
 use Rattle.le_base.specs.declared.stop.Refusal.{Refusal}
 use Rattle.le_base.specs.Code.{code_number}
@@ -10,19 +11,21 @@ use Rattle.le_layout.specs.declared.layout.Layout.{Layout}
 use Rattle.le_layout.specs.Words.{tokens_of, token_of}
 use Rattle.le_templates.specs.declared.part.Template.{Template}
 use Rattle.le_terms.specs.declared.program.Atom.{Atom}
-use Rattle.le_terms.specs.declared.program.Form.TheVariants.{Pos}
-use Rattle.le_terms.specs.declared.program.Literal.{Literal}
-use Rattle.le_terms.specs.declared.program.Clause.{Clause}
-use Rattle.le_terms.specs.declared.program.ClauseKind.TheVariants.{Written}
-use Rattle.le_scope.specs.Scopes.{ScopeState, empty_scope}
+use Rattle.le_terms.specs.Tree.{Tree}
+use Rattle.le_scope.specs.declared.scope.Intro.{Intro}
+use Rattle.le_scope.specs.declared.scope.Intro.TheVariants as intro
+use Rattle.le_scope.specs.Phrases.{is_phrase, is_name, phrase_name}
+use Rattle.le_scope.specs.Scopes.{ScopeState, empty_scope, introduction, introduced}
 use Rattle.le_match.specs.declared.readings.BestReading.{BestReading}
 use Rattle.le_match.specs.declared.readings.BestReading.TheVariants as best
 use Rattle.le_match.specs.Readings.{best_of}
-use Rattle.le_match.specs.Terms.{Found, refused, atom_of}
+use Rattle.le_match.specs.Terms.{Found, refused, term_of, atom_of}
+use Rattle.le_conds.specs.declared.cond.CondKind.{CondKind}
 use Rattle.le_conds.specs.declared.cond.CondKind.TheVariants as conds
 use Rattle.le_conds.specs.declared.cond.Cond.{Cond}
 use Rattle.le_conds.specs.declared.cond.Conds.{Conds}
-use Rattle.le_conds.specs.Rules.{rule_of, conditions_of}
+use Rattle.le_clauses.specs.declared.part.Part.{Part}
+use Rattle.le_clauses.specs.declared.part.Part.TheVariants as parts
 
 -- the scope in which a rule, a fact or a query begins: none of its at most 64 variables is introduced
 abbrev pub new_scope : ScopeState
@@ -49,80 +52,61 @@ head_of users names layout span =
     let found = atom_of users names new_scope false layout (tokens_of layout span) in
     if is_predefined (best_of users layout (tokens_of layout span)) then not_predefined (token_of layout span.from) found else found
 
--- the literal of an atom at a token; the predefined sentences aren't built yet
-abbrev pub literal_at : Token → Result (Found Atom) Refusal → Result (Found Literal) Refusal
-literal_at first (Ok f) =
-    if nat_lt f.value.pred 20 then refused Unbuilt first
-    else Ok (record { value = record { line = first.line; form = Pos f.value }; names = f.names; scope = f.scope })
-literal_at first (Err r) = Err r
+-- a part that was read, with the names and the scope behind it
+abbrev pub part_found : List (List ℕ) → ScopeState → Part → Result (Found Part) Refusal
+part_found names scope part = Ok (record { value = part; names = names; scope = scope })
 
--- The literal of a condition in a scope, with the names and the scope behind it.
-unfoldable pub literal_of : List Template → List (List ℕ) → ScopeState → Bool → Layout → Span → Result (Found Literal) Refusal
-literal_of users names scope query layout span = literal_at (token_of layout span.from) (atom_of users names scope query layout (tokens_of layout span))
+-- the part of a sentence on a line, with its atom
+abbrev pub sentence_part : ℕ → Result (Found Atom) Refusal → Result (Found Part) Refusal
+sentence_part line (Ok f) = part_found f.names f.scope (parts.Sentence line f.value)
+sentence_part line (Err r) = Err r
 
--- a literal before what is found for the conditions behind it
-abbrev pub onto_literals : Literal → Result (Found (List Literal)) Refusal → Result (Found (List Literal)) Refusal
-onto_literals literal (Ok f) = Ok (record { value = literal ∷ f.value; names = f.names; scope = f.scope })
-onto_literals literal (Err r) = Err r
+-- a gather whose value's name was introduced with this answer, refused at the word `each` where it is there or where the scope is full
+abbrev pub value_part : ℕ → FoldKind → Tree → List (List ℕ) → ScopeState → Token → Intro → Result (Found Part) Refusal
+value_part line fold total names scope each (intro.New n) = part_found names scope (parts.Gather line fold total n)
+value_part line fold total names scope each intro.Again = refused Again each
+value_part line fold total names scope each intro.Full = refused TooMany each
 
--- the literals of conditions from left to right, or the first refusal
-abbrev pub literals_of : List Template → List (List ℕ) → ScopeState → Bool → Layout → List Span → Result (Found (List Literal)) Refusal
-literals_of users names scope query layout [] = Ok (record { value = []; names = names; scope = scope })
-literals_of users names scope query layout (span ∷ spans) =
-    elim (literal_of users names scope query layout span) [
-      | Ok f ↦ onto_literals f.value (literals_of users f.names f.scope query layout spans)
+-- a gather whose result was read: `each` and a name introduce a variable as `a` and a name do
+abbrev pub named_part : ℕ → FoldKind → Token → List ℕ → Result (Found Tree) Refusal → Result (Found Part) Refusal
+named_part line fold each name (Ok f) = value_part line fold f.value f.names (introduced f.scope name) each (introduction f.scope name)
+named_part line fold each name (Err r) = Err r
+
+-- a gather's result is a phrase, and its value has a name
+abbrev pub is_gather : Layout → Span → Span → Bool
+is_gather layout total name = is_phrase layout (tokens_of layout total) && is_name layout (tokens_of layout name)
+
+-- The part of a gather whose first token is this one: it is refused there where its result is no phrase or its value has no name. The result is read, and then the value's name is introduced.
+abbrev pub gather_part : List Template → List (List ℕ) → ScopeState → Bool → Layout → ℕ → FoldKind → Span → Span → Result (Found Part) Refusal
+gather_part users names scope query layout at fold total name =
+    if is_gather layout total name
+    then named_part (token_of layout at).line fold (token_of layout (name.from - 1)) (phrase_name layout (tokens_of layout name)) (term_of users names scope query layout (tokens_of layout total))
+    else refused NoReading (token_of layout at)
+
+-- the part of a condition of this kind, whose first token is this one
+abbrev pub kind_part : List Template → List (List ℕ) → ScopeState → Bool → Layout → ℕ → CondKind → Result (Found Part) Refusal
+kind_part users names scope query layout at (conds.Sentence span) = sentence_part (token_of layout span.from).line (atom_of users names scope query layout (tokens_of layout span))
+kind_part users names scope query layout at (conds.And n) = part_found names scope (parts.And n)
+kind_part users names scope query layout at (conds.Or n) = part_found names scope (parts.Or n)
+kind_part users names scope query layout at conds.Not = part_found names scope (parts.Not (token_of layout at).line)
+kind_part users names scope query layout at conds.ForAll = part_found names scope (parts.ForAll (token_of layout at).line)
+kind_part users names scope query layout at (conds.Gather fold total name) = gather_part users names scope query layout at fold total name
+
+-- a part before those of the conditions behind it
+abbrev pub onto_parts : Part → Result (Found (List Part)) Refusal → Result (Found (List Part)) Refusal
+onto_parts part (Ok f) = Ok (record { value = part ∷ f.value; names = f.names; scope = f.scope })
+onto_parts part (Err r) = Err r
+
+-- The parts of conditions from left to right, or the first refusal.
+abbrev pub parts_of : List Template → List (List ℕ) → ScopeState → Bool → Layout → List Cond → Result (Found (List Part)) Refusal
+parts_of users names scope query layout [] = Ok (record { value = []; names = names; scope = scope })
+parts_of users names scope query layout (c ∷ cs) =
+    elim (kind_part users names scope query layout c.at c.kind) [
+      | Ok f ↦ onto_parts f.value (parts_of users f.names f.scope query layout cs)
       | Err r ↦ Err r
     ]
 
--- the sentence of a condition that is one
-abbrev pub sentence_of : Cond → List Span
-sentence_of c = elim c.kind [
-  | conds.Sentence span ↦ span ∷ []
-  | conds.And count ↦ []
-  | conds.Or count ↦ []
-  | conds.Not ↦ []
-  | conds.ForAll ↦ []
-  | conds.Gather fold result name ↦ []
-]
-
--- the sentences of conditions in order: those of a conjunction are its members
-abbrev pub sentences_of : Conds → List Span
-sentences_of conds = flat_map sentence_of conds.nodes
-
--- the sentences of a rule's conditions; a fact has none
-abbrev pub body_sentences : Option Conds → List Span
-body_sentences None = []
-body_sentences (Some conds) = sentences_of conds
-
--- the body of a rule behind its conclusion
-abbrev pub body_of : List Template → Found Atom → Layout → Option Conds → Result (Found (List Literal)) Refusal
-body_of users head layout conds = literals_of users head.names head.scope false layout (body_sentences conds)
-
--- the clause of a head and a body, whose variables are those of the scope
-abbrev pub clause_by : ℕ → Atom → Result (Found (List Literal)) Refusal → Result (Found Clause) Refusal
-clause_by line head (Ok f) = Ok (record { value = record { head = head; body = f.value; vars = length f.scope.names; line = line; kind = Written }; names = f.names; scope = f.scope })
-clause_by line head (Err r) = Err r
-
--- the clause of a rule that is cut into its conclusion and its conditions
-abbrev pub clause_of_parts : List Template → List (List ℕ) → Layout → ℕ → Span → Option Conds → Result (Found Clause) Refusal
-clause_of_parts users names layout line conclusion conds =
-    elim (head_of users names layout conclusion) [
-      | Ok head ↦ clause_by line head.value (body_of users head layout conds)
-      | Err r ↦ Err r
-    ]
-
--- The clause of a rule or a fact, with the names behind it: its conclusion is the head and its conditions the body.
-unfoldable pub clause_of : List Template → List (List ℕ) → Layout → Span → Result (Found Clause) Refusal
-clause_of users names layout sentence =
-    elim (rule_of layout sentence) [
-      | Ok parts ↦ clause_of_parts users names layout (token_of layout sentence.from).line parts.0 parts.1
-      | Err r ↦ Err r
-    ]
-
--- The literals of a query's sentence, with the names and the scope behind them.
-unfoldable pub query_of : List Template → List (List ℕ) → Layout → Span → Result (Found (List Literal)) Refusal
-query_of users names layout sentence =
-    elim (conditions_of layout sentence) [
-      | Ok conds ↦ literals_of users names new_scope true layout (sentences_of conds)
-      | Err r ↦ Err r
-    ]
+-- the conditions of a rule; a fact has none
+abbrev pub body_nodes : Option Conds → List Cond
+body_nodes None = []
+body_nodes (Some conds) = conds.nodes

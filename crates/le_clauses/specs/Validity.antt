@@ -1,34 +1,15 @@
 -- What the whole of a document keeps: this project's profile.
-use Rattle.std.specs.Prelude.{ℕ, ◌+◌, ◌^◌, ◌<◌, ◌≤◌, Bool, List, length, flat_map}
-use Rattle.std.specs.List.{AllByRecursion, count_by}
-use Rattle.le_templates.specs.declared.part.Part.{Part}
-use Rattle.le_templates.specs.declared.part.Part.TheVariants.{Word, Slot}
-use Rattle.le_templates.specs.declared.part.Template.{Template}
+use Rattle.std.specs.Prelude.{◌≡◌, ℕ, ◌+◌, ◌<◌, ◌≤◌, Some, List, length, flat_map, slice_get, get_or}
+use Rattle.std.specs.List.{AllByRecursion}
 use Rattle.le_terms.specs.declared.program.Clause.{Clause}
-use Rattle.le_terms.specs.Program.{IsProgramClause, IsLiteral, HasVariablesBelow, literals_terms, predefined_count}
-use Rattle.le_match.specs.Readings.{parts_at}
-use Rattle.le_proofs.specs.Goals.{AreAtoms}
+use Rattle.le_terms.specs.Program.{IsProgramClause, IsLiteral, HasVariablesBelow, literals_terms, predefined_count, predefined_arities}
 use Rattle.le_clauses.specs.declared.whole.Piece.{Piece}
 use Rattle.le_clauses.specs.declared.whole.Whole.{Whole}
 
-abbrev pub is_slot : Part → Bool
-is_slot (Word w) = Rattle.std.specs.Prelude.false
-is_slot (Slot s) = Rattle.std.specs.Prelude.true
-
--- how many slots the template of a predicate has
-abbrev pub arity_of : List Template → ℕ → ℕ
-arity_of users pred = count_by is_slot (parts_at users pred)
-
--- a clause of a document, all of whose conditions are atoms
-pub record IsWritten (users : List Template) (clause : Clause) : Type 0 where
-  pub sound : IsProgramClause (arity_of users) (predefined_count + length users) clause
-  pub atoms : AreAtoms clause.body
-
--- what a piece of a document keeps
-pub record IsPiece (users : List Template) (piece : Piece) : Type 0 where
-  pub clauses : AllByRecursion (IsWritten users) piece.clauses
-  pub query : AllByRecursion (IsLiteral (arity_of users) (predefined_count + length users)) piece.query
-  pub query_atoms : AreAtoms piece.query
+-- what a piece keeps, where predicates have these numbers of arguments and there are so many
+pub record IsPiece (arity : ℕ → ℕ) (predicates : ℕ) (piece : Piece) : Type 0 where
+  pub clauses : AllByRecursion (IsProgramClause arity predicates) piece.clauses
+  pub query : AllByRecursion (IsLiteral arity predicates) piece.query
   pub query_variables : HasVariablesBelow piece.vars (literals_terms piece.query)
   pub asked : AllByRecursion (λ asked. asked.var < piece.vars) piece.asked
   pub few : piece.vars ≤ 64
@@ -37,7 +18,21 @@ pub record IsPiece (users : List Template) (piece : Piece) : Type 0 where
 abbrev pub all_clauses : List Piece → List Clause
 all_clauses pieces = flat_map (λ (p : Piece). p.clauses) pieces
 
--- What the whole of a document keeps: each piece is sound, and there are at most 50,000 clauses.
+-- how many predicates there are: the predefined ones, those of the users' templates and those of the groups
+abbrev pub predicates_of : Whole → ℕ
+predicates_of whole = predefined_count + length whole.templates + length whole.groups
+
+-- What the whole of a document keeps: each of its predicates has one number of arguments in all pieces, each piece is valid, and there are at most 50,000 clauses.
 pub record IsWhole (whole : Whole) : Type 0 where
-  pub pieces : AllByRecursion (IsPiece whole.templates) whole.pieces
+  pub arity : ℕ → ℕ
+  pub predefined : (pred : ℕ) → pred < predefined_count → slice_get predefined_arities pred ≡ Some (arity pred)
+  pub pieces : AllByRecursion (IsPiece arity (predicates_of whole)) whole.pieces
   pub few : length (all_clauses whole.pieces) ≤ 50000
+
+-- the numbers of arguments that a table has
+abbrev pub arity_in : List ℕ → ℕ → ℕ
+arity_in table pred = get_or table pred 0
+
+-- the predefined predicates have their numbers of arguments by a table
+abbrev pub HasPredefined : List ℕ → Type 0
+HasPredefined table = (pred : ℕ) → pred < predefined_count → slice_get predefined_arities pred ≡ Some (arity_in table pred)

@@ -1,15 +1,13 @@
-ghost use Rattle.std.specs.Prelude.{◌≡◌, ℕ, Bool, List, IfOk};
-ghost use Rattle.le_layout.specs.declared.layout.Layout.{Layout};
-ghost use Rattle.le_templates.specs.declared.part.Template.{Template};
+ghost use Rattle.std.specs.Prelude.{◌≡◌, ◌≤◌, ℕ, Bool, List, ◌∷◌, map};
 ghost use Rattle.le_terms.specs.Tree.{Tree};
+ghost use Rattle.le_terms.specs.Variables.{all_occurrences};
 ghost use Rattle.le_terms.specs.declared.program.Atom.{Atom};
-ghost use Rattle.le_scope.specs.Scopes.{ScopeState};
-ghost use Rattle.le_conds.specs.declared.cond.Conds.{Conds};
-ghost use Rattle.le_clauses.specs.Rules.{sentences_of, literals_of};
-ghost use Rattle.le_clauses.specs.Truth.{are_true, is_body_true};
+ghost use Rattle.le_clauses.specs.Conditions.{Condition};
+ghost use Rattle.le_clauses.specs.Groups.{numbered, rule_vars, rule_draft, written_clause};
+ghost use Rattle.le_clauses.specs.Truth.{is_true, is_body_true, meant, of_templates, by_number, IsPlain};
 
-/// In every set of atoms and under every assignment of terms to variables the conditions of a rule or a
-/// query are true exactly where the literals that they are translated to are. It does nothing.
+/// The clauses of a rule are true exactly where its conditions are: over any values of which there is one at
+/// least, in any set of atoms and under any assignment. It does nothing.
 pub fn truth_kept()
-    ensures { (users : List Template) (names : List (List ℕ)) (scope : ScopeState) (query : Bool) (layout : Layout) (conds : Conds) → IfOk (literals_of users names scope query layout (sentences_of conds)) (λ f. (set : Atom → Bool) (by : ℕ → Tree) → is_body_true set by f.value ≡ are_true set by users names scope query layout conds) }
+    ensures { (first : Tree) (others : List Tree) (set : Atom → Bool) (base pred line : ℕ) (head : Atom) (c : Condition) (by : ℕ → Tree) → IsPlain base c → base ≤ pred → is_body_true (meant (first ∷ others) (of_templates base set) (map numbered (rule_draft pred head c).clauses)) (by_number (written_clause line head (rule_draft pred head c)) by) (numbered (written_clause line head (rule_draft pred head c))).body ≡ is_true (first ∷ others) set (rule_vars (all_occurrences head.args) c) c by }
 {}

@@ -1,199 +1,146 @@
-ghost use Rattle.std.specs.Prelude.{◌≡◌, flat_map, All, IfOk};
-ghost use Rattle.le_base.specs.declared.stop.Stop.TheVariants.{Refused};
-ghost use Rattle.le_base.specs.Stop.{Gives, refusal_at};
+ghost use Rattle.std.specs.Prelude.{◌≡◌, ℕ, ◌+◌, false, nat_lt, List, All, IfOk};
+ghost use Rattle.le_base.specs.Stop.{Gives};
 ghost use Rattle.le_layout.specs.Layout.{IsLayout};
-ghost use Rattle.le_layout.specs.Words.{IsSomeSpan, tokens_of, token_of};
-ghost use Rattle.le_match.specs.Readings.{best_of};
-ghost use Rattle.le_match.specs.Terms.{atom_of};
-ghost use Rattle.le_conds.specs.Bounds.{IsPart, IsCondIn, AreCondsIn};
-ghost use Rattle.le_clauses.specs.Rules.{new_scope, is_predefined as is_predefined_reading, goes_before as goes_before_token, not_predefined, head_of, literal_of, literals_of, sentence_of, body_sentences as sentences_of_body, clause_of};
+ghost use Rattle.le_layout.specs.Words.{IsSomeSpan};
+ghost use Rattle.le_conds.specs.Bounds.{IsCondIn};
+ghost use Rattle.le_clauses.specs.Rules.{body_nodes, parts_of};
+ghost use Rattle.le_clauses.specs.Shapes.{AreNodesIn, NodesFit, IsShape};
+ghost use Rattle.le_clauses.specs.Pieces.{next_pred as next_pred_of, within_limit, rule_translated, clauses_of_rule};
 
-use le_base::{Code, Refusal, Span, Stop};
-use le_conds::{Cond, CondKind, Conds, split_rule};
+use crate::conclusions::{conclusion, refused};
+use crate::part::Part;
+use crate::reading::parts;
+use crate::translate::rule_clauses;
+use le_base::{Code, Span, Stop};
+use le_conds::{Cond, Conds, split_rule};
 use le_layout::{Layout, Token};
-use le_match::{BestReading, best, read};
 use le_scope::Scope;
 use le_templates::Templates;
-use le_terms::{Atom, Clause, ClauseKind, Form, Literal, Literals, Names};
+use le_terms::{Atom, Clause, Clauses, GroupKind, Groups, Names};
 use std::alloc::{AllocError, Global};
 
-/// The clause of a rule or a fact, whose variables are introduced in a new scope.
-pub fn clause(
+/// The clauses of a rule or a fact, whose variables are introduced in a new scope. So many clauses and
+/// these groups stand before them.
+pub fn rule(
     alloc: Global,
     layout: &Layout,
     templates: &Templates,
     names: &mut Names,
-    scope: &mut Scope,
+    count: &mut u32,
+    groups: &mut Vec<GroupKind>,
     sentence: Span,
-) -> Result<Clause, Stop>
+) -> Result<Vec<Clause>, Stop>
     requires layout { IsLayout layout.now }
-    requires scope { scope.old ≡ new_scope }
     requires sentence { IsSomeSpan layout.now sentence }
-    ensures exact { Gives (λ clause. record { value = clause; names = names.new; scope = scope.new }) result (clause_of templates.now names.old layout.now sentence) }
+    ensures exact { Gives (λ clauses. record { value = clauses.items; names = names.new; count = count.new; groups = groups.new.items }) result (clauses_of_rule templates.now names.old count.old groups.old.items layout.now sentence) }
 {
     let (first, conds) = split_rule(alloc, layout, sentence)?;
-    let head = conclusion(alloc, layout, templates, names, scope, first)?;
-    let spans = body_sentences(alloc, layout, conds)?;
-    let body = literals(alloc, layout, templates, names, scope, false, &spans)?;
-    Ok(Clause {
-        head,
-        body: Literals::from_vec(body),
-        vars: scope.count(),
-        line: layout.token(sentence.from).line,
-        kind: ClauseKind::Written,
-    })
+    let mut scope = Scope::with_limit(alloc, 64);
+    let head = conclusion(alloc, layout, templates, names, &mut scope, first)?;
+    let parts = body_parts(alloc, layout, templates, names, &mut scope, conds)?;
+    let begin = layout.token(sentence.from);
+    read_rule(alloc, templates, count, groups, begin, head, parts)
 }
 
-// The atom of a conclusion in a new scope.
-fn conclusion(
+// The parts of a rule's conditions; a fact has none.
+fn body_parts(
     alloc: Global,
     layout: &Layout,
     templates: &Templates,
     names: &mut Names,
     scope: &mut Scope,
-    tokens: Span,
-) -> Result<Atom, Stop>
-    requires layout { IsLayout layout.now }
-    requires scope { scope.old ≡ new_scope }
-    requires tokens { IsPart layout.now tokens }
-    ensures exact { Gives (λ atom. record { value = atom; names = names.new; scope = scope.new }) result (head_of templates.now names.old layout.now tokens) }
-{
-    let first = layout.token(tokens.from);
-    match atom(alloc, layout, templates, names, scope, false, tokens) {
-        Ok(atom) if atom.pred < 20 => Err(refused(alloc, Code::PredefinedHead, first)),
-        Ok(atom) => Ok(atom),
-        Err(Stop::Memory) => Err(Stop::Memory),
-        Err(Stop::Refused(refusal)) => {
-            let predefined = is_predefined(&best(alloc, layout, templates, tokens)?);
-            if predefined && !goes_before(&refusal, Code::PredefinedHead, first) {
-                return Err(refused(alloc, Code::PredefinedHead, first));
-            }
-            Err(Stop::Refused(refusal))
-        }
-    }
-}
-
-// Whether the best reading is by a predefined template.
-fn is_predefined(best: &BestReading) -> bool
-    ensures { result ≡ is_predefined_reading best.now }
-{
-    match best {
-        BestReading::One(reading) => reading.pred < 20,
-        _ => false,
-    }
-}
-
-// Whether a refusal goes before one of this code at a token: it stands there and has the lesser number.
-fn goes_before(refusal: &Refusal, code: Code, token: Token) -> bool
-    ensures { result ≡ goes_before_token refusal.now code token }
-{
-    refusal.line == token.line
-        && refusal.column == token.column
-        && refusal.code.number() < code.number()
-}
-
-// The atom of a sentence. There can't be 2^30 names, since a document has fewer tokens: that many would
-// take tens of gigabytes, and are answered as want of memory.
-fn atom(
-    alloc: Global,
-    layout: &Layout,
-    templates: &Templates,
-    names: &mut Names,
-    scope: &mut Scope,
-    query: bool,
-    tokens: Span,
-) -> Result<Atom, Stop>
-    requires layout { IsLayout layout.now }
-    requires tokens { IsPart layout.now tokens }
-    ensures exact { Gives (λ atom. record { value = atom; names = names.new; scope = scope.new }) result (atom_of templates.now names.old scope.old query layout.now (tokens_of layout.now tokens)) }
-{
-    if names.count() >= 1 << 30 {
-        return Err(Stop::Memory);
-    }
-    read(alloc, layout, templates, names, scope, query, tokens)
-}
-
-// The literal of a condition.
-fn literal(
-    alloc: Global,
-    layout: &Layout,
-    templates: &Templates,
-    names: &mut Names,
-    scope: &mut Scope,
-    query: bool,
-    tokens: Span,
-) -> Result<Literal, Stop>
-    requires layout { IsLayout layout.now }
-    requires tokens { IsPart layout.now tokens }
-    ensures exact { Gives (λ literal. record { value = literal; names = names.new; scope = scope.new }) result (literal_of templates.now names.old scope.old query layout.now tokens) }
-{
-    let first = layout.token(tokens.from);
-    let atom = atom(alloc, layout, templates, names, scope, query, tokens)?;
-    if atom.pred < 20 {
-        return Err(refused(alloc, Code::Unbuilt, first));
-    }
-    Ok(Literal {
-        line: first.line,
-        form: Form::Pos(atom),
-    })
-}
-
-/// The literals of conditions, from left to right.
-pub fn literals(
-    alloc: Global,
-    layout: &Layout,
-    templates: &Templates,
-    names: &mut Names,
-    scope: &mut Scope,
-    query: bool,
-    spans: &[Span],
-) -> Result<Vec<Literal>, Stop>
-    requires layout { IsLayout layout.now }
-    requires spans { All (IsPart layout.now) spans.now }
-    ensures exact { Gives (λ literals. record { value = literals.items; names = names.new; scope = scope.new }) result (literals_of templates.now names.old scope.old query layout.now spans.now) }
-{
-    let mut literals = Vec::new(alloc);
-    for span in spans {
-        let literal = literal(alloc, layout, templates, names, scope, query, *span)?;
-        literals.push(literal)?;
-    }
-    Ok(literals)
-}
-
-// The sentences of a rule's conditions; a fact has none. The error is want of memory.
-fn body_sentences(
-    alloc: Global,
-    layout: &Layout,
     conds: Option<Conds>,
-) -> Result<Vec<Span>, AllocError>
-    requires conds { AreCondsIn layout.now conds }
-    ensures spans { IfOk result (λ spans. spans.items ≡ sentences_of_body conds) }
-    ensures within { IfOk result (λ spans. All (IsPart layout.now) spans.items) }
+) -> Result<Vec<Part>, Stop>
+    requires layout { IsLayout layout.now }
+    requires conds { AreNodesIn layout.now conds }
+    ensures exact { Gives (λ parts. record { value = parts.items; names = names.new; scope = scope.new }) result (parts_of templates.now names.old scope.old false layout.now (body_nodes conds)) }
+    ensures shape { IfOk result (λ parts. IsShape parts.items) }
 {
     match conds {
         None => Ok(Vec::new(alloc)),
-        Some(conds) => sentences(alloc, layout, conds.nodes.as_slice()),
+        Some(conds) => tree_parts(
+            alloc,
+            layout,
+            templates,
+            names,
+            scope,
+            false,
+            conds.nodes.as_slice(),
+        ),
     }
 }
 
-/// The sentences of conditions, in order. The error is want of memory.
-pub fn sentences(alloc: Global, layout: &Layout, nodes: &[Cond]) -> Result<Vec<Span>, AllocError>
+/// The parts of conditions that are those of one tree.
+pub fn tree_parts(
+    alloc: Global,
+    layout: &Layout,
+    templates: &Templates,
+    names: &mut Names,
+    scope: &mut Scope,
+    query: bool,
+    nodes: &[Cond],
+) -> Result<Vec<Part>, Stop>
+    requires layout { IsLayout layout.now }
     requires nodes { All (IsCondIn layout.now) nodes.now }
-    ensures spans { IfOk result (λ spans. spans.items ≡ flat_map sentence_of nodes.now) }
-    ensures within { IfOk result (λ spans. All (IsPart layout.now) spans.items) }
+    requires fit { NodesFit 1 nodes.now }
+    ensures exact { Gives (λ parts. record { value = parts.items; names = names.new; scope = scope.new }) result (parts_of templates.now names.old scope.old query layout.now nodes.now) }
+    ensures shape { IfOk result (λ parts. IsShape parts.items) }
 {
-    let mut spans = Vec::new(alloc);
-    for node in nodes {
-        if let CondKind::Sentence(span) = node.kind {
-            spans.push(span)?;
-        }
-    }
-    Ok(spans)
+    parts(alloc, layout, templates, names, scope, query, nodes)
 }
 
-/// A refusal at a token.
-pub fn refused(alloc: Global, code: Code, token: Token) -> Stop
-    ensures { result ≡ Refused (refusal_at code token.line token.column) }
+// The clauses of a rule that was read. Its sentence begins at this token.
+fn read_rule(
+    alloc: Global,
+    templates: &Templates,
+    count: &mut u32,
+    groups: &mut Vec<GroupKind>,
+    begin: Token,
+    head: Atom,
+    parts: Vec<Part>,
+) -> Result<Vec<Clause>, Stop>
+    requires shape { IsShape parts.items }
+    ensures exact { (names : List (List ℕ)) → Gives (λ clauses. record { value = clauses.items; names = names; count = count.new; groups = groups.new.items }) result (rule_translated templates.now count.old groups.old.items begin head names parts.items) }
 {
-    Stop::Refused(Refusal::at(alloc, code, token.line, token.column))
+    let pred = next_pred(templates, groups)?;
+    let rule = rule_clauses(alloc, pred, begin.line, head, parts)?;
+    counted_rule(alloc, count, groups, begin, rule.clauses, rule.kinds)
+}
+
+/// The predicate of the next group. There can't be 2^31, since a document has fewer tokens.
+pub fn next_pred(templates: &Templates, groups: &[GroupKind]) -> Result<u32, AllocError>
+    ensures { IfOk result (λ n. n ≡ next_pred_of templates.now groups.now) }
+{
+    let users = templates.users();
+    if users >= 1 << 30 || groups.len() >= 1 << 30 {
+        return Err(AllocError);
+    }
+    Ok(20 + users + groups.len() as u32)
+}
+
+// The clauses of a rule, which are counted, unless there are too many.
+fn counted_rule(
+    alloc: Global,
+    count: &mut u32,
+    groups: &mut Vec<GroupKind>,
+    begin: Token,
+    clauses: Clauses,
+    kinds: Groups,
+) -> Result<Vec<Clause>, Stop>
+    ensures exact { (names : List (List ℕ)) → Gives (λ cs. record { value = cs.items; names = names; count = count.new; groups = groups.new.items }) result (within_limit count.old groups.old.items begin names clauses kinds clauses) }
+{
+    let clauses = clauses.into_vec();
+    if is_over(*count, clauses.len()) {
+        return Err(refused(alloc, Code::TooMany, begin));
+    }
+    groups.extend_from_slice(kinds.as_slice())?;
+    *count += clauses.len() as u32;
+    Ok(clauses)
+}
+
+/// Whether there are more than 50,000 clauses where so many more stand behind so many.
+pub fn is_over(count: u32, more: usize) -> bool
+    ensures { result ≡ nat_lt 50000 (count + more) }
+{
+    more > 50_000 || count > 50_000 - more as u32
 }

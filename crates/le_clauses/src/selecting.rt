@@ -2,10 +2,10 @@ ghost use Rattle.std.specs.Prelude.{◌≡◌, ◌++◌, find, IfOk, OnOk};
 ghost use Rattle.std.specs.Option.{option_map, option_copied};
 ghost use Rattle.le_base.specs.Stop.{Gives};
 ghost use Rattle.le_terms.specs.Program.{IsProgram};
-ghost use Rattle.le_proofs.specs.Goals.{HasAtomsAlone};
 ghost use Rattle.le_clauses.specs.Selection.{is_named, knowledge, clauses_under, selected};
 ghost use Rattle.le_clauses.specs.Validity.{IsWhole};
 
+use crate::prelude::prelude;
 use crate::{Piece, Whole};
 use le_base::{Code, Refusal, Stop};
 use le_docs::SectionKind;
@@ -13,8 +13,8 @@ use le_terms::{Clause, Clauses, Program};
 use std::alloc::{AllocError, Global};
 
 /// The program of the query with this name: the clauses of the knowledge bases in the order of the text,
-/// and behind them those of the scenario with the other name, where one is given. Refused with
-/// `NoScenario` at line 0 column 0 exactly where no scenario has its name, and else with `NoQuery` there
+/// then those of the scenario with the other name, where one is given, those of the query's groups, and
+/// the prelude. Refused with `NoScenario` at line 0 column 0 exactly where no scenario has its name, and else with `NoQuery` there
 /// exactly where no query has its name. `Memory` is want of memory. The whole is that of a document.
 pub fn select(
     alloc: Global,
@@ -25,12 +25,14 @@ pub fn select(
     requires { IsWhole whole.now }
     ensures exact { Gives (λ p. p) result (selected whole.now (option_map (λ s. s.now) scenario.entry) query.now) }
     ensures sound { IfOk result IsProgram }
-    ensures atoms { IfOk result HasAtomsAlone }
 {
-    let clauses = clauses(alloc, whole, scenario)?;
+    let mut clauses = clauses(alloc, whole, scenario)?;
     let Some(piece) = named(whole.pieces.as_slice(), SectionKind::Query, query) else {
         return Err(Stop::Refused(Refusal::at(alloc, Code::NoQuery, 0, 0)));
     };
+    add(alloc, piece.clauses.as_slice(), &mut clauses)?;
+    let mut prelude = prelude(alloc)?;
+    clauses.append(&mut prelude)?;
     Ok(Program {
         clauses: Clauses::from_vec(clauses),
         query: piece.query.copy(alloc)?,

@@ -24,12 +24,28 @@ fn add_atom(out: &mut String, atom: &Atom) -> Result<(), AllocError> {
     Ok(())
 }
 
+fn add_form(out: &mut String, form: &Form) -> Result<(), AllocError> {
+    match form {
+        Form::Pos(atom) => add_atom(out, atom),
+        Form::Neg(atom) => add_named(out, " not", atom),
+        Form::Calc(atom) => add_named(out, " calc", atom),
+        Form::Gather {
+            fold: _,
+            result: _,
+            value: _,
+            atom,
+        } => add_named(out, " gather", atom),
+    }
+}
+
+fn add_named(out: &mut String, name: &str, atom: &Atom) -> Result<(), AllocError> {
+    out.push_str(name)?;
+    add_atom(out, atom)
+}
+
 fn add_literals(out: &mut String, literals: &[Literal]) -> Result<(), AllocError> {
     for literal in literals {
-        match &literal.form {
-            Form::Pos(atom) => add_atom(out, atom)?,
-            _ => out.push_str("other")?,
-        }
+        add_form(out, &literal.form)?;
     }
     Ok(())
 }
@@ -39,6 +55,9 @@ fn told(alloc: Global, program: &Program) -> Result<String, AllocError> {
     let mut out = String::new(alloc);
     for clause in program.clauses.as_slice() {
         let line = clause.line;
+        if line == 0 {
+            continue;
+        }
         write!(out, "{line}:")?;
         add_atom(&mut out, &clause.head)?;
         out.push_str(" if")?;
@@ -97,7 +116,7 @@ fn outcome(alloc: Global, rest: &str, scenario: &str) -> Result<String, AllocErr
 const RULES: &str =
     "Bob is happy.\na person is happy if\n the person likes tea\n and the person likes Bob.\nscenario s is:\nAnn likes tea.\nquery q is:\n *which person* is happy\n and Bob likes the person.\n";
 
-const CASES: [(&str, &str, &str); 16] = [
+const CASES: [(&str, &str, &str); 22] = [
     (
         RULES,
         "s",
@@ -131,9 +150,39 @@ const CASES: [(&str, &str, &str); 16] = [
     ),
     ("a person likes a person.\n", "", "Again 4:16"),
     (
-        "Bob is happy if\n Bob is equal to Bob.\n",
+        "Bob is happy if\n Bob is equal to Bob.\nquery q is:\n Bob is happy.\n",
         "",
-        "Unbuilt 5:2",
+        "4: 20(c0) if calc 0(c0c0) /0\n? 20(c0) /0 2",
+    ),
+    (
+        "a person is happy if\n it is not the case that\n  the person likes a thing.\nquery q is:\n which person is happy.\n",
+        "",
+        "4: 20(v0) if not 22(v0) /1\n6: 22(v0) if 21(v0v1) /2\n? 20(v0) person=0 /1 2",
+    ),
+    (
+        "a person is happy if\n the person likes tea\n or the person likes Bob.\nquery q is:\n which person is happy\n or the person likes tea.\n",
+        "",
+        "4: 20(v0) if 22(v0) /1\n5: 22(v0) if 21(v0c0) /1\n6: 22(v0) if 21(v0c1) /1\n8: 23(v0) if 20(v0) /1\n9: 23(v0) if 21(v0c0) /1\n? 23(v0) person=0 /1 2",
+    ),
+    (
+        "a person is happy if\n for all cases in which\n  the person likes a thing\n it is the case that\n  the thing is happy.\nquery q is:\n Bob is happy.\n",
+        "",
+        "4: 20(v0) if not 22(v0) /1\n6: 22(v0) if 21(v0v1) not 20(v1) /2\n? 20(c0) /0 2",
+    ),
+    (
+        "a person likes a thing if\n the thing is the number of each book such that\n  the person likes the book.\nquery q is:\n Bob is happy.\n",
+        "",
+        "4: 21(v0v1) if gather 21(v0v2) /3\n? 20(c0) /0 2",
+    ),
+    (
+        "a person likes a thing if\n the thing is the number of each a such that\n  the person likes tea.\n",
+        "",
+        "NoReading 5:2",
+    ),
+    (
+        "a person likes a thing if\n the thing is the number of each person such that\n  the person likes tea.\n",
+        "",
+        "Again 5:29",
     ),
     ("Bob runs.\n", "", "NoReading 4:1"),
     ("Bob is happy if\n.\n", "", "BadIndent 4:14"),

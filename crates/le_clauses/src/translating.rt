@@ -1,35 +1,33 @@
-ghost use Rattle.std.specs.Prelude.{◌≡◌, ◌≤◌, length, All, IfOk};
+ghost use Rattle.std.specs.Prelude.{◌≡◌, Ok, length, All, IfOk};
 ghost use Rattle.le_base.specs.Stop.{Gives};
 ghost use Rattle.le_layout.specs.Layout.{IsLayout};
 ghost use Rattle.le_docs.specs.Bounds.{IsSentenceOver, IsSectionOver};
-ghost use Rattle.le_layout.specs.Words.{IsSomeSpan, token_of};
-ghost use Rattle.le_clauses.specs.Rules.{clause_of};
-ghost use Rattle.le_clauses.specs.Pieces.{is_read as is_read_section, within_limit, clauses_of, piece_of_query, piece_of, pieces_of, program_of};
+ghost use Rattle.le_clauses.specs.Pieces.{is_read as is_read_section, clauses_of, piece_of, pieces_of, program_of};
 ghost use Rattle.le_clauses.specs.Validity.{IsWhole};
 
 use crate::declaring::declared;
 use crate::queries::query;
-use crate::rules::{clause, refused};
+use crate::rules::rule;
+use crate::validity::is_valid;
 use crate::{Piece, Pieces, Whole};
-use le_base::{Code, Span, Stop, Text};
+use le_base::{Span, Stop, Text};
 use le_docs::{Doc, Section, SectionKind};
 use le_layout::Layout;
-use le_scope::Scope;
 use le_templates::Templates;
-use le_terms::{AskedList, Clause, Clauses, Groups, Literals, Names};
+use le_terms::{AskedList, Clause, Clauses, GroupKind, Groups, Literals, Names};
 use std::alloc::Global;
 
 /// The whole of a document: its templates, and then its sentences one by one in the order of the text.
-/// A rule's conclusion is the head of a clause and its conditions are the body; a fact is a clause
-/// without a body; the conditions of a query are its literals, and each phrase of `which` and a name is
-/// asked for.
+/// A rule's conclusion is the head of a clause and its conditions are the body, with a clause for each
+/// branch of its groups; a fact is a clause without a body; the conditions of a query are its literals,
+/// and each phrase of `which` and a name is asked for.
 ///
 /// A refusal is the first in this order: `BadTemplate`, `SameTemplate` or `TooMany` for a template; and
-/// then for each sentence the refusal of its shape (`LongSentence`, `BadIndent`, `Unbuilt` for a form
-/// that isn't built), that of its reading (`NoReading`, `Ambiguous`, `Dangling`, `Again`, `WhichHere`,
-/// `TooMany` for a 65th variable, `PredefinedHead` for a conclusion by a predefined template, `Unbuilt`
-/// for a condition by one), and `TooMany` for a 50,001st clause. `Memory` is want of memory. The layout
-/// is a sound one, and the sections lie in it.
+/// then for each sentence the refusal of its shape (`LongSentence`, `MixedConnectives`, `BadIndent`,
+/// `NegationScope`), that of its reading (`NoReading`, `Ambiguous`, `Dangling`, `Again`, `WhichHere`,
+/// `TooMany` for a 65th variable, `PredefinedHead` for a conclusion by a predefined template), and
+/// `TooMany` for a 50,001st clause, those of groups counted. The layout is a valid one, and the sections
+/// lie in it.
 pub fn program(alloc: Global, layout: &Layout, doc: &Doc) -> Result<Whole, Stop>
     requires layout { IsLayout layout.now }
     requires doc { All (IsSectionOver (length layout.now.tokens)) doc.now.sections }
@@ -40,13 +38,37 @@ pub fn program(alloc: Global, layout: &Layout, doc: &Doc) -> Result<Whole, Stop>
     let templates = declared(alloc, layout, sections)?;
     let mut names = Names::new(alloc);
     let mut count = 0;
-    let pieces = pieces(alloc, layout, &templates, &mut names, &mut count, sections)?;
-    Ok(Whole {
-        templates,
-        names,
-        groups: Groups::from_vec(Vec::new(alloc)),
-        pieces: Pieces::from_vec(pieces),
-    })
+    let mut groups = Vec::new(alloc);
+    let pieces = pieces(
+        alloc,
+        layout,
+        &templates,
+        &mut names,
+        &mut count,
+        &mut groups,
+        sections,
+    )?;
+    valid_whole(
+        alloc,
+        Whole {
+            templates,
+            names,
+            groups: Groups::from_vec(groups),
+            pieces: Pieces::from_vec(pieces),
+        },
+    )
+}
+
+// The whole, which is valid: what isn't so can't be translated, and would be answered as out of memory.
+fn valid_whole(alloc: Global, whole: Whole) -> Result<Whole, Stop>
+    ensures exact { Gives (λ w. w) result (Ok whole) }
+    ensures sound { IfOk result IsWhole }
+{
+    if is_valid(alloc, &whole)? {
+        Ok(whole)
+    } else {
+        Err(Stop::Memory)
+    }
 }
 
 // The pieces of sections in order. So many clauses stand before them, and then behind them.
@@ -56,16 +78,17 @@ fn pieces(
     templates: &Templates,
     names: &mut Names,
     count: &mut u32,
+    groups: &mut Vec<GroupKind>,
     sections: &[Section],
 ) -> Result<Vec<Piece>, Stop>
     requires layout { IsLayout layout.now }
     requires sections { All (IsSectionOver (length layout.now.tokens)) sections.now }
-    ensures exact { Gives (λ pieces. record { value = pieces.items; names = names.new; count = count.new }) result (pieces_of templates.now names.old count.old layout.now sections.now) }
+    ensures exact { Gives (λ pieces. record { value = pieces.items; names = names.new; count = count.new; groups = groups.new.items }) result (pieces_of templates.now names.old count.old groups.old.items layout.now sections.now) }
 {
     let mut pieces = Vec::new(alloc);
     for section in sections {
         if is_read(section) {
-            let piece = piece(alloc, layout, templates, names, count, section)?;
+            let piece = piece(alloc, layout, templates, names, count, groups, section)?;
             pieces.push(piece)?;
         }
     }
@@ -89,17 +112,20 @@ fn piece(
     templates: &Templates,
     names: &mut Names,
     count: &mut u32,
+    groups: &mut Vec<GroupKind>,
     section: &Section,
 ) -> Result<Piece, Stop>
     requires layout { IsLayout layout.now }
     requires section { IsSectionOver (length layout.now.tokens) section.now }
-    ensures exact { Gives (λ piece. record { value = piece; names = names.new; count = count.new }) result (piece_of templates.now names.old count.old layout.now section.now) }
+    ensures exact { Gives (λ piece. record { value = piece; names = names.new; count = count.new; groups = groups.new.items }) result (piece_of templates.now names.old count.old groups.old.items layout.now section.now) }
 {
     let spans = section.sentences.as_slice();
     if section.kind.is(SectionKind::Query) && !spans.is_empty() {
-        return query(alloc, layout, templates, names, *count, section, spans[0]);
+        return query(
+            alloc, layout, templates, names, count, groups, section, spans[0],
+        );
     }
-    let clauses = clauses(alloc, layout, templates, names, count, spans)?;
+    let clauses = clauses(alloc, layout, templates, names, count, groups, spans)?;
     Ok(Piece {
         kind: section.kind,
         name: Text::of(alloc, section.name.as_str())?,
@@ -117,39 +143,17 @@ fn clauses(
     templates: &Templates,
     names: &mut Names,
     count: &mut u32,
+    groups: &mut Vec<GroupKind>,
     spans: &[Span],
 ) -> Result<Vec<Clause>, Stop>
     requires layout { IsLayout layout.now }
     requires spans { All (IsSentenceOver (length layout.now.tokens)) spans.now }
-    ensures exact { Gives (λ clauses. record { value = clauses.items; names = names.new; count = count.new }) result (clauses_of templates.now names.old count.old layout.now spans.now) }
+    ensures exact { Gives (λ clauses. record { value = clauses.items; names = names.new; count = count.new; groups = groups.new.items }) result (clauses_of templates.now names.old count.old groups.old.items layout.now spans.now) }
 {
     let mut clauses = Vec::new(alloc);
     for span in spans {
-        let clause = limited_clause(alloc, layout, templates, names, count, *span)?;
-        clauses.push(clause)?;
+        let mut more = rule(alloc, layout, templates, names, count, groups, *span)?;
+        clauses.append(&mut more)?;
     }
     Ok(clauses)
-}
-
-// One more clause, unless there are 50,000.
-fn limited_clause(
-    alloc: Global,
-    layout: &Layout,
-    templates: &Templates,
-    names: &mut Names,
-    count: &mut u32,
-    sentence: Span,
-) -> Result<Clause, Stop>
-    requires layout { IsLayout layout.now }
-    requires sentence { IsSentenceOver (length layout.now.tokens) sentence }
-    ensures exact { Gives (λ clause. record { value = clause; names = names.new; count = count.new }) result (within_limit count.old (token_of layout.now sentence.from) (clause_of templates.now names.old layout.now sentence)) }
-{
-    let mut scope = Scope::with_limit(alloc, 64);
-    let clause = clause(alloc, layout, templates, names, &mut scope, sentence)?;
-    if 50_000 <= *count {
-        let first = layout.token(sentence.from);
-        return Err(refused(alloc, Code::TooMany, first));
-    }
-    *count += 1;
-    Ok(clause)
 }

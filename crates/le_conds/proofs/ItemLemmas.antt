@@ -1,33 +1,34 @@
 -- The items, one token further, and that they lose nothing.
-use Rattle.std.proofs.Common.{◌≡◌, ℕ, zero, suc, ◌+◌, ◌-◌, ◌<◌, ◌≤◌, List, [], ◌∷◌, ◌++◌, length, take, drop, slice_range, flat_map, Option, None, Some, sym, ap, ◌∙◌, arith, append_assoc, drop-drop, ⊎_elim, subst}
+use Rattle.std.proofs.Common.{◌≡◌, ℕ, zero, suc, ◌+◌, ◌-◌, ◌<◌, ◌≤◌, List, [], ◌∷◌, ◌++◌, length, take, drop, slice_range, flat_map, Option, None, Some, Bool, true, false, cond, ◌&&◌, ◌||◌, codes, refl, sym, ap, ◌∙◌, arith, append_assoc, drop-drop, ⊎_elim, subst}
 use Rattle.std.specs.List.{All}
-use Rattle.std.proofs.lemmas.Bool.{cases_lt}
+use Rattle.std.proofs.lemmas.Bool.{cases_lt, true≢false}
 use Rattle.std.proofs.lemmas.List.Elements.{All-nil, All-cons}
 use Rattle.std.proofs.lemmas.List.{append-nil}
 use Rattle.std.proofs.Math.Seq.{take-add}
 use Rattle.le_layout.specs.declared.token.Token.{Token}
 use Rattle.le_layout.specs.declared.layout.Layout.{Layout}
-use Rattle.le_layout.specs.Words.{tokens_of}
+use Rattle.le_layout.specs.Words.{tokens_of, has_word}
 use Rattle.le_conds.specs.declared.item.Lead.{Lead}
 use Rattle.le_conds.specs.declared.item.Lead.TheVariants.{Plain, And, Or, Marker}
 use Rattle.le_conds.specs.declared.item.Item.{Item}
 use Rattle.le_conds.specs.Bounds.{IsItemOver, AreItemsOver}
-use Rattle.le_conds.specs.Items.{span, content_from, opened, closed, lead_at, open_behind, ended_before, items_from, items_of}
+use Rattle.le_conds.specs.Openers.{is_first, opens_marker}
+use Rattle.le_conds.specs.Items.{span, content_from, opened, closed, is_bare, lead_of_line, begins_item, BeginsAt, lead_at, open_after, ended_before, items_from, items_of}
 
-from_suc : (l : Layout) (to : ℕ) (item : Item) (k n m : ℕ) → n ≡ suc m → items_from l to item k n ≡ ended_before item k (lead_at l to item k) ++ items_from l to (open_behind item k (lead_at l to item k)) (k + 1) m
+from_suc : (l : Layout) (to : ℕ) (item : Item) (k n m : ℕ) → n ≡ suc m → items_from l to item k n ≡ ended_before item k (lead_at l to item k) ++ items_from l to (open_after item k (lead_at l to item k)) (k + 1) m
 unfolding items_from
 from_suc l to item k n m e = ap (items_from l to item k) e
 
-pub items_step : (l : Layout) (to : ℕ) (item : Item) (k : ℕ) → k < to → items_from l to item k (to - k) ≡ ended_before item k (lead_at l to item k) ++ items_from l to (open_behind item k (lead_at l to item k)) (k + 1) (to - (k + 1))
+pub items_step : (l : Layout) (to : ℕ) (item : Item) (k : ℕ) → k < to → items_from l to item k (to - k) ≡ ended_before item k (lead_at l to item k) ++ items_from l to (open_after item k (lead_at l to item k)) (k + 1) (to - (k + 1))
 items_step l to item k low = from_suc l to item k (to - k) (to - (k + 1)) (omega arith)
 
 -- a token that begins no item
 pub items_same : (l : Layout) (to : ℕ) (item : Item) (k : ℕ) → k < to → lead_at l to item k ≡ None → items_from l to item k (to - k) ≡ items_from l to item (k + 1) (to - (k + 1))
-items_same l to item k low e = items_step l to item k low ∙ ap (λ lead. ended_before item k lead ++ items_from l to (open_behind item k lead) (k + 1) (to - (k + 1))) e
+items_same l to item k low e = items_step l to item k low ∙ ap (λ lead. ended_before item k lead ++ items_from l to (open_after item k lead) (k + 1) (to - (k + 1))) e
 
 -- a token that begins one
 pub items_next : (l : Layout) (to : ℕ) (item : Item) (k : ℕ) (lead : Lead) → k < to → lead_at l to item k ≡ Some lead → items_from l to item k (to - k) ≡ closed item k ∷ items_from l to (opened lead k) (k + 1) (to - (k + 1))
-items_next l to item k lead low e = items_step l to item k low ∙ ap (λ w. ended_before item k w ++ items_from l to (open_behind item k w) (k + 1) (to - (k + 1))) e
+items_next l to item k lead low e = items_step l to item k low ∙ ap (λ w. ended_before item k w ++ items_from l to (open_after item k w) (k + 1) (to - (k + 1))) e
 
 pub items_end : (l : Layout) (to : ℕ) (item : Item) (k n : ℕ) → n ≡ 0 → items_from l to item k n ≡ closed item to ∷ []
 unfolding items_from
@@ -82,7 +83,7 @@ joined xs a b c low high =
 abbrev pub all_of : Layout → Item → List Token
 all_of l item = tokens_of l (span item.at item.content.to)
 
-whole_step : (l : Layout) (to : ℕ) (item : Item) (k n : ℕ) (lead : Option Lead) → item.at ≤ k → k ≤ to → ((next : Item) → next.at ≤ k + 1 → flat_map (all_of l) (items_from l to next (k + 1) n) ≡ slice_range l.tokens next.at to) → flat_map (all_of l) (ended_before item k lead ++ items_from l to (open_behind item k lead) (k + 1) n) ≡ slice_range l.tokens item.at to
+whole_step : (l : Layout) (to : ℕ) (item : Item) (k n : ℕ) (lead : Option Lead) → item.at ≤ k → k ≤ to → ((next : Item) → next.at ≤ k + 1 → flat_map (all_of l) (items_from l to next (k + 1) n) ≡ slice_range l.tokens next.at to) → flat_map (all_of l) (ended_before item k lead ++ items_from l to (open_after item k lead) (k + 1) n) ≡ slice_range l.tokens item.at to
 whole_step l to item k n None begun low rest = rest item (omega arith)
 whole_step l to item k n (Some lead) begun low rest =
     ap (λ ts. slice_range l.tokens item.at k ++ ts) (rest (opened lead k) (omega arith)) ∙ joined l.tokens item.at k to begun low
@@ -98,7 +99,7 @@ whole l from to h = whole_from l to (to - from) (opened Plain from) from (omega 
 
 -- ---- what holds of each item
 
-all_step : (l : Layout) (to : ℕ) (Open : Item → ℕ → Type 0) (P : Item → Type 0) → ((item : Item) (k : ℕ) → Open item k → k ≤ to → P (closed item k)) → ((item : Item) (k : ℕ) → Open item k → k < to → Open item (k + 1)) → ((lead : Lead) (k : ℕ) → k < to → Open (opened lead k) (k + 1)) → (n k : ℕ) (item : Item) (lead : Option Lead) → Open item k → k < to → ((next : Item) → Open next (k + 1) → All P (items_from l to next (k + 1) n)) → All P (ended_before item k lead ++ items_from l to (open_behind item k lead) (k + 1) n)
+all_step : (l : Layout) (to : ℕ) (Open : Item → ℕ → Type 0) (P : Item → Type 0) → ((item : Item) (k : ℕ) → Open item k → k ≤ to → P (closed item k)) → ((item : Item) (k : ℕ) → Open item k → k < to → Open item (k + 1)) → ((lead : Lead) (k : ℕ) → k < to → Open (opened lead k) (k + 1)) → (n k : ℕ) (item : Item) (lead : Option Lead) → Open item k → k < to → ((next : Item) → Open next (k + 1) → All P (items_from l to next (k + 1) n)) → All P (ended_before item k lead ++ items_from l to (open_after item k lead) (k + 1) n)
 all_step l to Open P ends goes begins n k item None begun low rest = rest item (goes item k begun low)
 all_step l to Open P ends goes begins n k item (Some lead) begun low rest =
     All-cons P (closed item k) _ (ends item k begun (omega arith)) (rest (opened lead k) (begins lead k low))
@@ -135,3 +136,58 @@ items_over l from to count low high = record {
       (λ (none : to ≤ from). let one = ap length (items_end l to (opened Plain from) from (to - from) (omega arith)) in absurd (omega (arith, one, several)))
       (cases_lt from to);
 }
+
+-- ---- where items begin
+
+-- the open item begins where it began
+here_by : (l : Layout) (to n : ℕ) (item : Item) (k : ℕ) (lead : Option Lead) → BeginsAt item.at (items_from l to item (k + 1) n) → BeginsAt item.at (ended_before item k lead ++ items_from l to (open_after item k lead) (k + 1) n)
+here_by l to n item k None rest = rest
+here_by l to n item k (Some lead) rest = record { front = []; item = closed item k; back = items_from l to (opened lead k) (k + 1) n; same = refl; at = refl }
+
+here : (l : Layout) (to n : ℕ) (item : Item) (k : ℕ) → BeginsAt item.at (items_from l to item k n)
+unfolding items_from
+here l to zero item k = record { front = []; item = closed item to; back = []; same = refl; at = refl }
+here l to (suc n) item k = here_by l to n item k (lead_at l to item k) (here l to n item (k + 1))
+
+later : (k : ℕ) (xs ys : List Item) → BeginsAt k ys → BeginsAt k (xs ++ ys)
+later k xs ys b = record {
+  front = xs ++ b.front;
+  item = b.item;
+  back = b.back;
+  same = ap (λ zs. xs ++ zs) b.same ∙ sym (append_assoc xs b.front (b.item ∷ b.back));
+  at = b.at;
+}
+
+lead_by : (first with_and with_or marked : Bool) (rest : Option Lead) → (first && (with_and || (with_or || marked))) ≡ true → (lead : Lead) × (cond first (cond with_and (Some And) (cond with_or (Some Or) (cond marked (Some Marker) rest))) None ≡ Some lead)
+lead_by true true o m rest e = (And, refl)
+lead_by true false true m rest e = (Or, refl)
+lead_by true false false true rest e = (Marker, refl)
+lead_by true false false false rest e = absurd (true≢false (sym e))
+lead_by false a o m rest e = absurd (true≢false (sym e))
+
+lead_here : (l : Layout) (to : ℕ) (item : Item) (k : ℕ) → begins_item l to k ≡ true → (lead : Lead) × (lead_at l to item k ≡ Some lead)
+unfolding lead_at lead_of_line
+lead_here l to item k e =
+    lead_by (is_first l k) (has_word l k (codes "and")) (has_word l k (codes "or")) (opens_marker l k to) (cond (is_bare l item.lead item.content.from k) (Some Plain) None) e
+
+cut_here : (l : Layout) (to n : ℕ) (item : Item) (k : ℕ) (lead : Lead) → lead_at l to item k ≡ Some lead → BeginsAt k (items_from l to item k (suc n))
+unfolding items_from
+cut_here l to n item k lead e =
+    subst (λ (w : Option Lead). BeginsAt k (ended_before item k w ++ items_from l to (open_after item k w) (k + 1) n)) (sym e)
+    (later k (closed item k ∷ []) (items_from l to (opened lead k) (k + 1) n) (here l to n (opened lead k) (k + 1)))
+
+cut_from : (l : Layout) (to n : ℕ) (item : Item) (k m : ℕ) → k ≤ m → m < k + n → begins_item l to m ≡ true → BeginsAt m (items_from l to item k n)
+unfolding items_from
+cut_from l to zero item k m low high e = absurd (omega (arith, low, high))
+cut_from l to (suc n) item k m low high e =
+    ⊎_elim
+    (λ (less : k < m). later m (ended_before item k (lead_at l to item k)) (items_from l to (open_after item k (lead_at l to item k)) (k + 1) n)
+    (cut_from l to n (open_after item k (lead_at l to item k)) (k + 1) m (omega arith) (omega (arith, high)) e))
+    (λ (equal : m ≤ k).
+    let same : k ≡ m = omega (arith, low, equal) in
+    let lead = lead_here l to item k (ap (begins_item l to) same ∙ e) in
+    subst (λ (i : ℕ). BeginsAt i (items_from l to item k (suc n))) same (cut_here l to n item k lead.0 lead.1))
+    (cases_lt k m)
+
+pub cut : (l : Layout) (from to k : ℕ) → from ≤ k → k < to → begins_item l to k ≡ true → BeginsAt k (items_of l from to)
+cut l from to k low high e = cut_from l to (to - from) (opened Plain from) from k low (omega (arith, low, high)) e

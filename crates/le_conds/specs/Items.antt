@@ -1,5 +1,5 @@
 -- How conditions are cut into items: this project's profile.
-use Rattle.std.specs.Prelude.{ℕ, zero, suc, ◌+◌, ◌-◌, ◌==◌, Bool, true, false, if◌then◌else◌, codes, Option, None, Some, List, [], ◌∷◌, ◌++◌}
+use Rattle.std.specs.Prelude.{◌≡◌, ℕ, zero, suc, ◌+◌, ◌-◌, ◌==◌, ◌&&◌, ◌||◌, Bool, true, false, if◌then◌else◌, codes, Option, None, Some, List, [], ◌∷◌, ◌++◌}
 use Rattle.le_base.specs.declared.stop.Span.{Span}
 use Rattle.le_layout.specs.declared.layout.Layout.{Layout}
 use Rattle.le_layout.specs.Words.{has_word}
@@ -17,10 +17,6 @@ abbrev pub is_marker : Lead → Bool
 is_marker Marker = true
 is_marker _ = false
 
-abbrev pub is_or : Lead → Bool
-is_or Or = true
-is_or _ = false
-
 -- tokens one after another
 abbrev pub span : ℕ → ℕ → Span
 span from to = record { from = from; to = to }
@@ -37,7 +33,7 @@ opened lead at = record { lead = lead; at = at; content = span (content_from lea
 abbrev pub closed : Item → ℕ → Item
 closed item to = record { lead = item.lead; at = item.at; content = span item.content.from to }
 
--- whether the content so far of an item that begins so is a marker or an opener with nothing behind it
+-- whether the content so far of an item that begins so is a marker or an opener and nothing else
 unfoldable pub is_bare : Layout → Lead → ℕ → ℕ → Bool
 is_bare layout lead from k =
     if is_marker lead then k - from == 5
@@ -59,10 +55,10 @@ lead_of_line layout to item k =
 unfoldable pub lead_at : Layout → ℕ → Item → ℕ → Option Lead
 lead_at layout to item k = if is_first layout k then lead_of_line layout to item k else None
 
--- the item that is open behind a token where an item may begin
-abbrev pub open_behind : Item → ℕ → Option Lead → Item
-open_behind item k None = item
-open_behind item k (Some lead) = opened lead k
+-- the item that is open after a token where an item may begin
+abbrev pub open_after : Item → ℕ → Option Lead → Item
+open_after item k None = item
+open_after item k (Some lead) = opened lead k
 
 -- the item that ends before such a token
 abbrev pub ended_before : Item → ℕ → Option Lead → List Item
@@ -74,8 +70,20 @@ unfoldable pub items_from : Layout → ℕ → Item → ℕ → ℕ → List Ite
 items_from layout to item k zero = closed item to ∷ []
 items_from layout to item k (suc n) =
     let lead = lead_at layout to item k in
-    ended_before item k lead ++ items_from layout to (open_behind item k lead) (k + 1) n
+    ended_before item k lead ++ items_from layout to (open_after item k lead) (k + 1) n
 
 -- The items of conditions: the first begins at their first token.
 abbrev pub items_of : Layout → ℕ → ℕ → List Item
 items_of layout from to = items_from layout to (opened Plain from) from (to - from)
+
+-- a token that is the first of its line and is `and`, `or` or a marker, where the conditions end here
+abbrev pub begins_item : Layout → ℕ → ℕ → Bool
+begins_item layout to k = is_first layout k && (has_word layout k (codes "and") || (has_word layout k (codes "or") || opens_marker layout k to))
+
+-- one of some items begins at this token
+pub record BeginsAt (k : ℕ) (items : List Item) : Type 0 where
+  pub front : List Item
+  pub item : Item
+  pub back : List Item
+  pub same : items ≡ front ++ item ∷ back
+  pub at : item.at ≡ k

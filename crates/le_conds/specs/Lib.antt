@@ -1,6 +1,10 @@
 pub mod Blocks
 pub mod Bounds
+pub mod Entries
+pub mod Faults
 pub mod Items
+pub mod Members
 pub mod Openers
-pub mod Refusals
 pub mod Rules
+pub mod Stack
+pub mod Trees

@@ -52,11 +52,11 @@ says_each layout k = has_word layout k (codes "is") && (has_word layout (k + 1) 
 unfoldable pub says_such_that : Layout → ℕ → Bool
 says_such_that layout k = has_word layout k (codes "such") && has_word layout (k + 1) (codes "that")
 
--- the place behind the words `is the sum of each` of content that begins here
+-- the place after the words `is the sum of each` of content that begins here
 unfoldable pub ends_each : Layout → ℕ → ℕ → Bool
 ends_each layout from k = nat_le 5 (k - from) && says_each layout (k - 5)
 
--- the place behind the words `such that` that stand behind another place
+-- the place after the words `such that` that follow another place
 unfoldable pub ends_such_that : Layout → ℕ → ℕ → Bool
 ends_such_that layout from k = nat_le 2 (k - from) && says_such_that layout (k - 2)
 
@@ -66,21 +66,21 @@ or_here (Some found) is_so k = Some found
 or_here None true k = Some k
 or_here None false k = None
 
--- the first of so many places behind a place where it is so
-unfoldable pub first_behind : (ℕ → Bool) → ℕ → ℕ → Option ℕ
-first_behind is_so from zero = None
-first_behind is_so from (suc n) = or_here (first_behind is_so from n) (is_so (from + suc n)) (from + suc n)
+-- the first of so many places after a place where it is so
+unfoldable pub first_after : (ℕ → Bool) → ℕ → ℕ → Option ℕ
+first_after is_so from zero = None
+first_after is_so from (suc n) = or_here (first_after is_so from n) (is_so (from + suc n)) (from + suc n)
 
--- the place behind the first `is the sum of each` of a span
+-- the place after the first `is the sum of each` of a span
 abbrev pub each_end : Layout → ℕ → ℕ → Option ℕ
-each_end layout from to = first_behind (ends_each layout from) from (to - from)
+each_end layout from to = first_after (ends_each layout from) from (to - from)
 
--- the place behind the first `such that` between two places
+-- the place after the first `such that` between two places
 abbrev pub such_that_end : Layout → Option ℕ → ℕ → Option ℕ
 such_that_end layout None to = None
-such_that_end layout (Some from) to = first_behind (ends_such_that layout from) from (to - from)
+such_that_end layout (Some from) to = first_after (ends_such_that layout from) from (to - from)
 
--- The place behind a gather's opener in a span: the first `is the sum of each`, and behind it the first `such that`.
+-- The place after a gather's opener in a span: the first `is the sum of each`, and after it the first `such that`.
 abbrev pub gather_end : Layout → ℕ → ℕ → Option ℕ
 gather_end layout from to = such_that_end layout (each_end layout from to) to
 

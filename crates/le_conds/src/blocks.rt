@@ -1,44 +1,98 @@
-ghost use Rattle.std.specs.Prelude.{◌≡◌, ◌++◌, ◌^◌, ◌<◌, length, map, IfOk, OnOk};
-ghost use Rattle.le_conds.specs.Blocks.{sentence_node as sentence_node_of, conds_of};
+ghost use Rattle.std.specs.Prelude.{◌≡◌, ◌+◌, ◌≤◌, ◌&&◌, List, not, length, nat_lt, max};
+ghost use Rattle.le_conds.specs.Members.{Member, is_marker as is_marker_item, inside, before_marker, deepest_of};
+ghost use Rattle.le_conds.specs.Stack.{stacked, scope_of, marker_of};
 
-use crate::item::Item;
-use crate::{Cond, CondKind, Conds, Nodes};
-use std::alloc::{AllocError, Global};
+use crate::entry::{Entry, Opens};
 
-/// The conditions of items. The error is want of memory.
-pub fn block(alloc: Global, items: &[Item]) -> Result<Conds, AllocError>
-    requires { length items.now < 2 ^ 32 }
-    ensures { IfOk result (λ conds. conds ≡ conds_of items.now) }
-{
-    let mut nodes = Vec::new(alloc);
-    if items.len() >= 2 {
-        nodes.push(Cond {
-            kind: CondKind::And(items.len() as u32),
-            at: items[0].content.from,
-        })?;
-    }
-    push_members(&mut nodes, items)?;
-    Ok(Conds {
-        nodes: Nodes::from_vec(nodes),
-    })
+/// A member that waits for the item that it belongs to.
+#[derive(Clone, Copy, Debug)]
+pub struct Waiting {
+    /// Its item.
+    pub item: Entry,
+    /// The greatest column among the item and what it takes.
+    pub deepest: u32,
 }
 
-/// Pushes the sentence of each item. The error is want of memory.
-fn push_members(nodes: &mut Vec<Cond>, items: &[Item]) -> Result<(), AllocError>
-    ensures { OnOk result (nodes.new.items ≡ nodes.old.items ++ map sentence_node_of items.now) }
+/// Whether an item is a marker.
+pub fn is_marker(opens: Opens) -> bool
+    ensures { result ≡ is_marker_item opens }
 {
-    for item in items {
-        nodes.push(sentence_node(*item))?;
-    }
-    Ok(())
+    matches!(opens, Opens::Second(_) | Opens::Stray)
 }
 
-/// The sentence of an item's content.
-fn sentence_node(item: Item) -> Cond
-    ensures { result ≡ sentence_node_of item }
+/// Whether a member belongs to a scope of this column.
+fn belongs(column: u32, member: Waiting) -> bool
+    ensures { result ≡ (not (is_marker_item member.item.opens) && nat_lt column member.item.column) }
 {
-    Cond {
-        kind: CondKind::Sentence(item.content),
-        at: item.content.from,
+    !is_marker(member.item.opens) && column < member.item.column
+}
+
+/// How many of the members that wait, from the last on, are in a scope of this column.
+fn count_inside(waiting: &[Waiting], column: u32) -> usize
+    ensures low { result ≤ length waiting.now }
+    ensures exact { (ms : List Member) → waiting.now ≡ stacked ms → result ≡ length (inside column ms) }
+{
+    let count = waiting.len();
+    for k in 0..count {
+        if !belongs(column, waiting[count - 1 - k]) {
+            return k;
+        }
     }
+    count
+}
+
+/// How many of the members that wait, from the last on, stand before the first marker.
+fn count_before_marker(waiting: &[Waiting]) -> usize
+    ensures low { result ≤ length waiting.now }
+    ensures exact { (ms : List Member) → waiting.now ≡ stacked ms → result ≡ length (before_marker ms) }
+{
+    let count = waiting.len();
+    for k in 0..count {
+        if is_marker(waiting[count - 1 - k].item.opens) {
+            return k;
+        }
+    }
+    count
+}
+
+/// How many of the members that wait, from the last on, are in the scope of an item.
+pub fn count_scope(waiting: &[Waiting], entry: Entry) -> usize
+    ensures low { result ≤ length waiting.now }
+    ensures exact { (ms : List Member) → waiting.now ≡ stacked ms → result ≡ length (scope_of entry.opens entry ms) }
+{
+    match entry.opens {
+        Opens::ForAll => count_before_marker(waiting),
+        Opens::Second(column) => count_inside(waiting, column),
+        _ => count_inside(waiting, entry.column),
+    }
+}
+
+/// How many markers an item takes, where so many of the members that wait are in its scope.
+pub fn count_marker(waiting: &[Waiting], entry: Entry, count: usize) -> usize
+    requires { count ≤ length waiting.now }
+    ensures low { count + result ≤ length waiting.now }
+    ensures exact { (ms : List Member) → waiting.now ≡ stacked ms → count ≡ length (scope_of entry.opens entry ms) → result ≡ length (marker_of entry.opens ms) }
+{
+    match entry.opens {
+        Opens::ForAll if count < waiting.len() => 1,
+        _ => 0,
+    }
+}
+
+/// The greatest column among some members.
+pub fn deepest(members: &[Waiting]) -> u32
+    ensures { (ms : List Member) → members.now ≡ stacked ms → result ≡ deepest_of ms }
+{
+    let mut deepest = 0;
+    for member in members {
+        deepest = greater(member.deepest, deepest);
+    }
+    deepest
+}
+
+/// The greater of two columns.
+pub fn greater(column: u32, other: u32) -> u32
+    ensures { result ≡ max column other }
+{
+    if column < other { other } else { column }
 }

@@ -10,19 +10,19 @@ pub enum CondKind {
     Sentence(Span),
     /// All of so many conditions, at least two.
     And(u32),
-    /// One of so many conditions, at least two. It doesn't arise yet.
+    /// One of so many conditions, at least two.
     Or(u32),
-    /// Not the one condition below it. It doesn't arise yet.
+    /// Not the one condition below it.
     Not,
-    /// In all cases of the first condition below it the second. It doesn't arise yet.
+    /// In all cases of the first condition below it the second.
     ForAll,
-    /// A result gathered from all cases of the one condition below it. It doesn't arise yet.
+    /// A result gathered from all cases of the one condition below it.
     Gather {
         /// What is made of the values.
         fold: FoldKind,
-        /// The tokens of the result.
+        /// The tokens of the result, of which there may be none.
         result: Span,
-        /// The name of the value.
+        /// The tokens of the value's name, of which there may be none.
         name: Span,
     },
 }
@@ -53,21 +53,21 @@ impl Model for Nodes {
 }
 
 impl Nodes {
-    /// The conditions of a vector. It takes no memory.
+    /// The conditions of a vector.
     pub fn from_vec(items: Vec<Cond>) -> Self
         ensures { result ≡ items.items }
     {
         Nodes { items }
     }
 
-    /// The vector of the conditions. It takes no memory.
+    /// The vector of the conditions.
     pub fn into_vec(self) -> Vec<Cond>
         ensures { result.items ≡ self }
     {
         self.items
     }
 
-    /// The conditions, borrowed. It takes no memory.
+    /// The conditions, borrowed.
     pub fn as_slice(&self) -> &[Cond]
         ensures { result.now ≡ self.now }
     {

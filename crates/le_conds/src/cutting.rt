@@ -9,7 +9,7 @@ use crate::openers::{Seen, is_first, is_place, opens_for_all, opens_marker, open
 use le_layout::Layout;
 use std::alloc::{AllocError, Global};
 
-/// The items of these tokens, which are conditions. The error is want of memory.
+/// The items of these tokens, which are conditions.
 pub fn items(alloc: Global, layout: &Layout, from: u32, to: u32) -> Result<Vec<Item>, AllocError>
     requires layout { IsLayout layout.now }
     requires ordered { from ≤ to }
@@ -73,7 +73,7 @@ fn lead_of_line(layout: &Layout, to: u32, item: Item, seen: Seen, k: u32) -> Opt
     }
 }
 
-/// Whether content that ends here is a marker or an opener with nothing behind it.
+/// Whether content that ends here is a marker or an opener and nothing else.
 #[tactic(auto, unfolding(crate::specs::Items::is_bare))]
 fn is_bare(layout: &Layout, lead: Lead, seen: Seen, from: u32, k: u32) -> bool
     requires layout { IsLayout layout.now }

@@ -1,12 +1,12 @@
 ghost use Rattle.std.specs.Prelude.{◌≡◌, ◌+◌, ◌^◌, ◌<◌};
-ghost use Rattle.le_conds.specs.Items.{is_connective as is_connective_lead, is_marker as is_marker_lead, is_or as is_or_lead, opened, closed};
+ghost use Rattle.le_conds.specs.Items.{is_connective as is_connective_lead, is_marker as is_marker_lead, opened, closed};
 
 use le_base::Span;
 
 /// How an item of the conditions begins.
 #[derive(Clone, Copy, Debug)]
 pub enum Lead {
-    /// With its content: the first item, or the one behind an opener or marker that has nothing behind it.
+    /// With its content: the first item, or the one after an opener or a marker that is alone on its line.
     Plain,
     /// With `and`.
     And,
@@ -29,13 +29,6 @@ impl Lead {
         ensures { result ≡ is_marker_lead self }
     {
         matches!(self, Lead::Marker)
-    }
-
-    /// Whether the item begins with `or`.
-    pub fn is_or(self) -> bool
-        ensures { result ≡ is_or_lead self }
-    {
-        matches!(self, Lead::Or)
     }
 }
 

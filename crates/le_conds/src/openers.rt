@@ -106,9 +106,9 @@ fn says_marker(layout: &Layout, k: u32) -> bool
 /// What was found of a gather's opener.
 #[derive(Clone, Copy, Debug)]
 pub struct Seen {
-    /// The place behind the first `is the sum of each`.
+    /// The place after the first `is the sum of each`.
     pub each: Option<u32>,
-    /// The place behind the first `such that` that stands behind it.
+    /// The place after the first `such that` that follows it.
     pub such_that: Option<u32>,
 }
 
@@ -148,18 +148,19 @@ impl Seen {
     }
 }
 
-/// The place behind a gather's opener among these tokens, where there is one.
-pub fn gather_end(layout: &Layout, from: u32, to: u32) -> Option<u32>
+/// What is found of a gather's opener among these tokens.
+pub fn gather_seen(layout: &Layout, from: u32, to: u32) -> Seen
     requires layout { IsLayout layout.now }
     requires ordered { from ≤ to }
     requires inside { to ≤ length layout.now.tokens }
-    ensures { result ≡ gather_end_of layout.now from to }
+    ensures each { result.each ≡ each_end layout.now from to }
+    ensures such_that { result.such_that ≡ gather_end_of layout.now from to }
 {
     let mut seen = Seen::nothing();
     for k in from..to {
         seen = seen.further(layout, from, k);
     }
-    seen.such_that
+    seen
 }
 
 /// The place that was found, or else this one where it is so.
@@ -183,7 +184,7 @@ pub fn is_place(found: Option<u32>, k: u32) -> bool
     }
 }
 
-/// Whether a place is behind `is the sum of each` in content that begins here.
+/// Whether a place is the one after `is the sum of each` in content that begins here.
 #[tactic(auto, unfolding(crate::specs::Openers::ends_each))]
 fn ends_each(layout: &Layout, from: u32, k: u32) -> bool
     requires layout { IsLayout layout.now }
@@ -217,7 +218,7 @@ fn is_fold_word(layout: &Layout, k: u32) -> bool
     layout.has_word(k, "sum") || layout.has_word(k, "number") || layout.has_word(k, "greatest")
 }
 
-/// Whether a place is behind `such that`, which stands behind another place.
+/// Whether a place is the one after a `such that` that follows another place.
 #[tactic(auto, unfolding(crate::specs::Openers::ends_such_that))]
 fn ends_such_that(layout: &Layout, from: u32, k: u32) -> bool
     requires layout { IsLayout layout.now }

@@ -17,7 +17,7 @@ pub longer_none : (p : Parts) → longer 0 p ≡ p
 longer_none (last k) = let h : 0 + k ≡ k = omega arith in ap last h
 longer_none (part k p) = let h : 0 + k ≡ k = omega arith in ap (λ i. part i p) h
 
-parts_step : (l : Layout) (commas : Bool) (k to : ℕ) (b : Bool) → k < to → to ≤ length l.tokens → ends_sentence commas (get_or l.tokens k no_token).kind ≡ b → parts_in l commas k to ≡ cond b (part 0 (parts_in l commas (k + 1) to)) (longer 1 (parts_in l commas (k + 1) to))
+pub parts_step : (l : Layout) (commas : Bool) (k to : ℕ) (b : Bool) → k < to → to ≤ length l.tokens → ends_sentence commas (get_or l.tokens k no_token).kind ≡ b → parts_in l commas k to ≡ cond b (part 0 (parts_in l commas (k + 1) to)) (longer 1 (parts_in l commas (k + 1) to))
 unfolding parts_of
 parts_step l commas k to b low high e =
     ap (parts_of commas) (slice_more l.tokens k to no_token low high)
@@ -28,7 +28,7 @@ pub goes_on : (l : Layout) (commas : Bool) (start k to : ℕ) → start ≤ k �
 goes_on l commas start k to begun low high e =
     ap (longer (k - start)) (parts_step l commas k to false low high e) ∙ longer_longer (k - start) (k + 1 - start) (parts_in l commas (k + 1) to) (omega arith)
 
--- a token that ends a sentence ends the first part, and another begins behind it
+-- a token that ends a sentence ends the first part, and another begins after it
 pub ends : (l : Layout) (commas : Bool) (start k to : ℕ) → start ≤ k → k < to → to ≤ length l.tokens → ends_sentence commas (get_or l.tokens k no_token).kind ≡ true → longer (k - start) (parts_in l commas k to) ≡ part (k - start) (longer (k + 1 - (k + 1)) (parts_in l commas (k + 1) to))
 ends l commas start k to begun low high e =
     let p = parts_in l commas (k + 1) to in

@@ -48,7 +48,7 @@ pub lines_end : (l : Layout) (least : Option Fault) (lines : List Line) → line
 unfolding lines_faults
 lines_end l least lines e = ap (λ xs. least_from least (lines_faults l xs)) e
 
--- what was found, and a header that stands behind it or none
+-- what was found, and a header that follows it or none
 pub pushed : (xs all : List Head) (o : Option Head) (zs rest : List Head) → zs ≡ xs ++ option_to_list o → xs ++ (option_to_list o ++ rest) ≡ all → zs ++ rest ≡ all
 pushed xs all o zs rest e h = ap (λ v. v ++ rest) e ∙ assoc xs ∙ h
   where

@@ -5,7 +5,7 @@ use Rattle.le_layout.specs.declared.token.Token.{Token}
 use Rattle.le_layout.specs.declared.layout.Layout.{Layout}
 use Rattle.le_docs.specs.Kinds.{ends_sentence}
 
--- the numbers of tokens in the parts of a section: each part but the last has its full stop or comma behind it
+-- the numbers of tokens in the parts of a section: its full stop or comma follows each part but the last
 pub data Parts : Type 0 where
   last : ℕ → Parts
   part : ℕ → Parts → Parts

@@ -33,7 +33,7 @@ pub struct Checked {
 }
 
 /// The section of a header, which ends at a token, and the fault that decides among its faults and
-/// one that was found before. The error is want of memory.
+/// one that was found before.
 pub fn section(
     alloc: Global,
     layout: &Layout,
@@ -120,8 +120,7 @@ fn with_query_fault(
     }
 }
 
-/// The sentences among these tokens. Where commas do, they end a sentence, as full stops do. The error
-/// is want of memory.
+/// The sentences among these tokens. Where commas do, they end a sentence, as full stops do.
 fn sentences(
     alloc: Global,
     layout: &Layout,
@@ -159,7 +158,7 @@ fn sentences(
     })
 }
 
-/// The words of a span, joined by one space. The error is want of memory.
+/// The words of a span, joined by one space.
 fn name_of(alloc: Global, layout: &Layout, span: Span) -> Result<Text, AllocError>
     requires layout { IsLayout layout.now }
     requires inside { span.to ≤ length layout.now.tokens }

@@ -19,7 +19,7 @@ use std::collections::BTreeSet;
 /// A refusal is `UnknownHeader` for a first line that is no header, a line with a colon that ends no
 /// header, a target that isn't `prolog` and a full stop, or a query's second sentence; `NoStop` for a
 /// sentence that isn't ended or a query without one; `SameName` for a scenario or a query with the name
-/// of an earlier one. The least place decides, and at one place the least number. `Memory` is want of
+/// of an earlier one. The least place decides, and at one place the least number. `Memory` is out of
 /// memory.
 pub fn sections(alloc: Global, layout: &Layout) -> Result<Doc, Stop>
     requires layout { IsLayout layout.now }
@@ -53,7 +53,7 @@ struct Divided {
 }
 
 /// The sections of headers, and the fault that decides among their faults and one that was found
-/// before. The error is want of memory.
+/// before.
 fn divide(
     alloc: Global,
     layout: &Layout,
@@ -92,7 +92,7 @@ fn next_at(layout: &Layout, heads: &[Head], k: usize) -> u32
 }
 
 /// The fault that decides among one that was found before and those of sections of this kind whose
-/// name an earlier one has. The error is want of memory.
+/// name an earlier one has.
 fn with_name_faults(
     alloc: Global,
     layout: &Layout,

@@ -20,7 +20,7 @@ pub enum SectionKind {
 }
 
 impl SectionKind {
-    /// Whether two sections hold the same. It takes no memory.
+    /// Whether two sections hold the same.
     pub fn is(self, other: SectionKind) -> bool
         ensures { result ≡ same_kind self other }
     {
@@ -57,21 +57,21 @@ impl Model for Spans {
 }
 
 impl Spans {
-    /// The spans of a vector. It takes no memory.
+    /// The spans of a vector.
     pub fn from_vec(items: Vec<Span>) -> Self
         ensures { result ≡ items.items }
     {
         Spans { items }
     }
 
-    /// The vector of the spans. It takes no memory.
+    /// The vector of the spans.
     pub fn into_vec(self) -> Vec<Span>
         ensures { result.items ≡ self }
     {
         self.items
     }
 
-    /// The spans, borrowed. It takes no memory.
+    /// The spans, borrowed.
     pub fn as_slice(&self) -> &[Span]
         ensures { result.now ≡ self.now }
     {
@@ -79,7 +79,7 @@ impl Spans {
     }
 }
 
-/// A section: what stands behind a header, up to the next header.
+/// A section: what follows a header, up to the next header.
 #[derive(Debug, Drop)]
 pub struct Section {
     /// What it holds.
@@ -108,21 +108,21 @@ impl Model for Sections {
 }
 
 impl Sections {
-    /// The sections of a vector. It takes no memory.
+    /// The sections of a vector.
     pub fn from_vec(items: Vec<Section>) -> Self
         ensures { result ≡ items.items }
     {
         Sections { items }
     }
 
-    /// The vector of the sections. It takes no memory.
+    /// The vector of the sections.
     pub fn into_vec(self) -> Vec<Section>
         ensures { result.items ≡ self }
     {
         self.items
     }
 
-    /// The sections, borrowed. It takes no memory.
+    /// The sections, borrowed.
     pub fn as_slice(&self) -> &[Section]
         ensures { result.now ≡ self.now }
     {

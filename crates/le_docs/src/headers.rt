@@ -32,7 +32,7 @@ pub struct Headers {
     pub least: Option<Fault>,
 }
 
-/// The headers of a layout, and the faults of its lines. The error is want of memory.
+/// The headers of a layout, and the faults of its lines.
 pub fn find_headers(alloc: Global, layout: &Layout) -> Result<Headers, AllocError>
     requires layout { IsLayout layout.now }
     ensures heads { IfOk result (λ found. found.heads.items ≡ heads_of layout.now layout.now.lines) }

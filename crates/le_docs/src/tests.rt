@@ -4,8 +4,8 @@ use le_layout::scan;
 use std::alloc::{AllocError, Global};
 use std::test::Fail;
 
-// A document as a text: each section with its kind, its name, its first token and its sentences.
-fn told(alloc: Global, doc: &Doc) -> Result<String, AllocError> {
+/// A document as a text: each section with its kind, its name, its first token and its sentences.
+fn doc_text(alloc: Global, doc: &Doc) -> Result<String, AllocError> {
     let mut out = String::new(alloc);
     for section in doc.sections.as_slice() {
         let kind = section.kind;
@@ -21,6 +21,7 @@ fn told(alloc: Global, doc: &Doc) -> Result<String, AllocError> {
     Ok(out)
 }
 
+/// The sections of a text, or its refusal.
 fn outcome(alloc: Global, text: &str) -> Result<String, AllocError> {
     if text.len() > 1000 {
         return String::from_str(alloc, "too long");
@@ -29,7 +30,7 @@ fn outcome(alloc: Global, text: &str) -> Result<String, AllocError> {
         return String::from_str(alloc, "no layout");
     };
     match sections(alloc, &layout) {
-        Ok(doc) => told(alloc, &doc),
+        Ok(doc) => doc_text(alloc, &doc),
         Err(Stop::Refused(refusal)) => {
             let name = refusal.code.name();
             let line = refusal.line;
@@ -40,7 +41,7 @@ fn outcome(alloc: Global, text: &str) -> Result<String, AllocError> {
     }
 }
 
-const CASES: [(&str, &str); 31] = [
+const CASES: [(&str, &str); 38] = [
     ("", ""),
     (
         "the templates are: *a* is up, *a, b* is\n down,, *c*.\n",
@@ -99,6 +100,23 @@ const CASES: [(&str, &str); 31] = [
     ("the target language is: prolog..\n", "UnknownHeader 1:1"),
     ("the target language is: latin.\n", "UnknownHeader 1:1"),
     ("the target language is: prolog\n", "UnknownHeader 1:1"),
+    ("the target language is: . prolog.\n", "UnknownHeader 1:1"),
+    // A header with a second colon ends the section before it, and a line with a colon that is no
+    // header doesn't.
+    ("scenario a is:\n b\nscenario c is: d: e.\n", "NoStop 2:2"),
+    ("scenario a is:\n b\n c: d.\n", "UnknownHeader 3:2"),
+    (
+        "scenario a is:\n b\n c: d\nscenario e is:\n f.\n",
+        "NoStop 2:2",
+    ),
+    // At one place the lesser number decides.
+    (
+        "scenario a is:\nscenario a is: b: c.\n",
+        "UnknownHeader 2:1",
+    ),
+    // The first line is the first that has a token.
+    ("% c\n\nquery a is: b.\n", "Query a 0: 4..5\n"),
+    ("% c\n\n  a.\nscenario a is:\n", "UnknownHeader 3:3"),
 ];
 
 #[test]

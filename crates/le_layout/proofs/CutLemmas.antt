@@ -240,7 +240,7 @@ end_piece cs rest h =
     (λ e. subst P (sym e) (front_is forms.LineEnd 13 (10 ∷ []) rest (form_at-other 13 (10 ∷ rest) cr_no_word refl refl ∙ cond-true _ forms.LineEnd forms.Single (ends_cr rest)) (more_cr (10 ∷ rest))))
     h
 
-pieces_of-piece : (p : Piece) (rest : List ℕ) → IsPiece p rest → pieces_of (p.chars ++ rest) ≡ p ∷ pieces_of rest
+pub pieces_of-piece : (p : Piece) (rest : List ℕ) → IsPiece p rest → pieces_of (p.chars ++ rest) ≡ p ∷ pieces_of rest
 pieces_of-piece p rest h =
     ⊎_elim (λ (w : IsLongestWord p rest). piece_is p forms.Word p.chars rest w.form refl (word_piece p.chars rest w.word w.longest))
     (λ h2. ⊎_elim (λ (q : IsClosedQuote p). piece_is p forms.Quote _ rest q.form q.chars (quote_piece q.content rest q.inner))

@@ -1,7 +1,7 @@
 -- The lines of a text, and the front of one.
-use Rattle.std.proofs.Common.{◌≡◌, ◌==◌, ℕ, ◌<◌, true, false, List, [], ◌∷◌, length, take, drop, sym, refl, ap, ◌∙◌, ⊎_elim, arith}
-use Rattle.std.proofs.lemmas.Bool.{cases_Bool, cond-true, cond-false}
-use Rattle.le_layout.specs.Lines.{onto_first_line, lines_of, text_of_lines, first_line}
+use Rattle.std.proofs.Common.{◌≡◌, ◌==◌, ℕ, ◌<◌, true, false, not, List, [], ◌∷◌, ◌++◌, length, take, drop, sym, refl, ap, ◌∙◌, subst, inl, inr, ⊎_elim, arith, append_assoc, append-nil}
+use Rattle.std.proofs.lemmas.Bool.{cases_Bool, cond-true, cond-false, and_parts, and_from, eqb-true}
+use Rattle.le_layout.specs.Lines.{onto_first_line, lines_of, text_of_lines, first_line, has_no_end, IsEnded, AreLines}
 
 lines_end : (c : ℕ) (cs : List ℕ) → (c == 10) ≡ true → lines_of (c ∷ cs) ≡ (c ∷ []) ∷ lines_of cs
 unfolding lines_of
@@ -68,3 +68,53 @@ text_of_lines-lines_of (c ∷ cs) =
     ⊎_elim (λ h. ap text_of_lines (lines_end c cs h) ∙ ap (λ xs. c ∷ xs) (text_of_lines-lines_of cs))
     (λ h. ap text_of_lines (lines_onto c cs h) ∙ text_onto c (lines_of cs) ∙ ap (λ xs. c ∷ xs) (text_of_lines-lines_of cs))
     (cases_Bool (c == 10))
+
+-- each line but the last ends with LF, which is its only one
+put_on_ended : (c : ℕ) (line : List ℕ) → (c == 10) ≡ false → IsEnded line → IsEnded (c ∷ line)
+put_on_ended c line h e = (c ∷ e.0, ap (λ xs. c ∷ xs) e.1, and_from _ _ (ap not h) e.2)
+
+put_on : (c : ℕ) (lines : List (List ℕ)) → (c == 10) ≡ false → AreLines lines → AreLines (onto_first_line c lines)
+put_on c [] h a = inr (omega arith, and_from _ _ (ap not h) refl)
+put_on c (line ∷ []) h a =
+    ⊎_elim (λ k. inl (put_on_ended c line h k)) (λ k. inr (omega arith, and_from _ _ (ap not h) k.1)) a
+put_on c (line ∷ next ∷ lines) h a = (put_on_ended c line h a.0, a.1)
+
+lf_first : (c : ℕ) (lines : List (List ℕ)) → (c == 10) ≡ true → AreLines lines → AreLines ((c ∷ []) ∷ lines)
+lf_first c [] h a = inl ([], ap (λ d. d ∷ []) (eqb-true c 10 h), refl)
+lf_first c (line ∷ lines) h a = (([], ap (λ d. d ∷ []) (eqb-true c 10 h), refl), a)
+
+pub are_lines-lines_of : (cs : List ℕ) → AreLines (lines_of cs)
+are_lines-lines_of [] = subst AreLines (sym lines_of-nil) tt
+are_lines-lines_of (c ∷ cs) =
+    ⊎_elim (λ h. subst AreLines (sym (lines_end c cs h)) (lf_first c (lines_of cs) h (are_lines-lines_of cs)))
+    (λ h. subst AreLines (sym (lines_onto c cs h)) (put_on c (lines_of cs) h (are_lines-lines_of cs)))
+    (cases_Bool (c == 10))
+
+-- and there is one such list of lines
+not_lf : (c : ℕ) → not (c == 10) ≡ true → (c == 10) ≡ false
+not_lf c h = ⊎_elim (λ k. let f : false ≡ true = ap not (sym k) ∙ h in cc) (λ k. k) (cases_Bool (c == 10))
+
+ended_front : (content rest : List ℕ) → has_no_end content ≡ true → lines_of (content ++ 10 ∷ rest) ≡ (content ++ 10 ∷ []) ∷ lines_of rest
+ended_front [] rest h = lines_end 10 rest refl
+ended_front (c ∷ content) rest h =
+    let both = and_parts (not (c == 10)) (has_no_end content) h in
+    lines_onto c (content ++ 10 ∷ rest) (not_lf c both.0) ∙ ap (onto_first_line c) (ended_front content rest both.1)
+
+ended_line : (line rest : List ℕ) → IsEnded line → lines_of (line ++ rest) ≡ line ∷ lines_of rest
+ended_line line rest e =
+    ap (λ xs. lines_of (xs ++ rest)) e.1 ∙ ap lines_of (append_assoc e.0 (10 ∷ []) rest) ∙ ended_front e.0 rest e.2 ∙ ap (λ xs. xs ∷ lines_of rest) (sym e.1)
+
+pub unended_line : (line : List ℕ) → 0 < length line → has_no_end line ≡ true → lines_of line ≡ line ∷ []
+unended_line [] n h = absurd (omega arith)
+unended_line (c ∷ []) n h = lines_onto c [] (not_lf c (and_parts (not (c == 10)) true h).0) ∙ ap (onto_first_line c) lines_of-nil
+unended_line (c ∷ d ∷ ds) n h =
+    let both = and_parts (not (c == 10)) (has_no_end (d ∷ ds)) h in
+    lines_onto c (d ∷ ds) (not_lf c both.0) ∙ ap (onto_first_line c) (unended_line (d ∷ ds) (omega arith) both.1)
+
+pub lines_of-lines : (lines : List (List ℕ)) → AreLines lines → lines_of (text_of_lines lines) ≡ lines
+lines_of-lines [] a = lines_of-nil
+lines_of-lines (line ∷ []) a =
+    ⊎_elim (λ k. ended_line line [] k ∙ ap (λ xs. line ∷ xs) lines_of-nil)
+    (λ k. ap lines_of (append-nil line) ∙ unended_line line k.0 k.1)
+    a
+lines_of-lines (line ∷ next ∷ lines) a = ended_line line (text_of_lines (next ∷ lines)) a.0 ∙ ap (λ xs. line ∷ xs) (lines_of-lines (next ∷ lines) a.1)

@@ -11,7 +11,7 @@ use Rattle.le_layout.specs.Pieces.{before_quote, has_quote, ends_line, form_at, 
 use Rattle.le_layout.specs.Faults.{is_comment_form, begins_comment}
 
 -- the marks that begin other pieces stand in no word
-mark_no_word : (c : ℕ) → is_xid_continue c ≡ false → (is_ascii_sign c || is_further_sign c) ≡ false → is_word_character c ≡ false
+pub mark_no_word : (c : ℕ) → is_xid_continue c ≡ false → (is_ascii_sign c || is_further_sign c) ≡ false → is_word_character c ≡ false
 unfolding is_word_character
 mark_no_word c h k = ap (λ b. b || (is_ascii_sign c || is_further_sign c)) h ∙ k
 

@@ -1,9 +1,9 @@
 -- The layout of whole texts, and the places in them.
-use Rattle.std.proofs.Common.{◌≡◌, ℕ, ◌+◌, ◌^◌, ◌<◌, ◌≤◌, List, length, take, drop, flat_map, Result, Ok, Err, IfOk, IsUtf8, chars, sym, ap, ap₂, ◌∙◌, subst, ⊎_elim, arith, length-drop}
-use Rattle.std.specs.Str.{is_utf8}
+use Rattle.std.proofs.Common.{true, false, ◌≡◌, ℕ, ◌+◌, ◌^◌, ◌<◌, ◌≤◌, List, [], ◌++◌, length, take, drop, flat_map, Result, Ok, Err, IfOk, All, IsUtf8, chars, sym, ap, ap₂, ◌∙◌, subst, ⊎_elim, arith, append-nil, length-drop}
+use Rattle.std.specs.Str.{is_utf8, encode_utf8_all, all_scalars}
 use Rattle.std.specs.Str.Lossy.{utf8_valid_len}
 use Rattle.std.proofs.lemmas.Bool.{cases_Bool, cond-true, cond-false, false_from_ne_true}
-use Rattle.std.proofs.lemmas.Str.{encodes-chars, length-le-encodes, is_utf8-from_IsUtf8, IsUtf8-from_is_utf8}
+use Rattle.std.proofs.lemmas.Str.{encodes-chars, scalars-chars, length-le-encodes, is_utf8-from_IsUtf8, IsUtf8-from_is_utf8}
 use Rattle.le_base.specs.declared.code.Code.TheVariants.{NotUtf8}
 use Rattle.le_base.specs.declared.stop.Stop.{Stop}
 use Rattle.le_base.specs.Stop.{Gives}
@@ -13,12 +13,12 @@ use Rattle.le_layout.specs.declared.token.Line.{Line}
 use Rattle.le_layout.specs.declared.layout.Layout.{Layout}
 use Rattle.le_layout.specs.Places.{place_behind, has_mark, without_mark, first_place, refused}
 use Rattle.le_layout.specs.Lines.{lines_of}
-use Rattle.le_layout.specs.Room.{HasRoom}
+use Rattle.le_layout.specs.Room.{HasRoom, StandsIn}
 use Rattle.le_layout.specs.Faults.{faults_from, unless_faulty}
-use Rattle.le_layout.specs.Layout.{rows_from, lines_from, faults_of, layout_in, place_in, layout_of, IsLayout}
+use Rattle.le_layout.specs.Layout.{rows_from, lines_from, faults_of, layout_in, place_in, layout_of, IsTokenIn, IsLayout}
 use Rattle.le_layout.proofs.RoomLemmas.{room_less, room_behind}
 use Rattle.le_layout.proofs.RowLemmas.{no_faults}
-use Rattle.le_layout.proofs.SoundLemmas.{sound_in}
+use Rattle.le_layout.proofs.SoundLemmas.{has_front, tokens_in_layout, sound_in}
 
 pub chars_short : (text : List ℕ) → IsUtf8 text → length (chars text) ≤ length text
 chars_short text utf8 = omega (arith, length-le-encodes (chars text), ap length (encodes-chars text utf8))
@@ -47,6 +47,24 @@ room_in text cs ds rest place utf8 short c d p r =
 
 pub rest_short : (text ds rest : List ℕ) → IsUtf8 text → length text ≤ 2 ^ 28 → ds ≡ chars text → rest ≡ without_mark ds → length rest < 2 ^ 32
 rest_short text ds rest utf8 short d r = omega (arith, ap length (r ∙ ap without_mark d), rest_le (chars text), chars_short text utf8)
+
+-- the characters behind a mark stand in the text from the first place on
+stands_first : (text : List ℕ) → IsUtf8 text → StandsIn text (first_place (chars text)) (without_mark (chars text))
+stands_first text utf8 =
+    let cs = chars text in
+    let f = has_front cs in
+    let e : f.front ++ (without_mark cs ++ []) ≡ cs = ap (λ xs. f.front ++ xs) (append-nil (without_mark cs)) ∙ sym f.whole in
+    record {
+      front = f.front;
+      back = [];
+      text_is = ap encode_utf8_all e ∙ encodes-chars text utf8;
+      scalars = ap all_scalars e ∙ scalars-chars text utf8;
+      byte = f.leads.byte;
+    }
+
+pub stands_in : (text cs ds rest : List ℕ) (place : Place) → IsUtf8 text → cs ≡ chars text → ds ≡ chars text → place ≡ first_place cs → rest ≡ without_mark ds → StandsIn text place rest
+stands_in text cs ds rest place utf8 c d p r =
+    subst (λ q. StandsIn text q rest) (sym (p ∙ ap first_place c)) (subst (StandsIn text (first_place (chars text))) (sym (r ∙ ap without_mark d)) (stands_first text utf8))
 
 pub place_is : (text bytes cs ds rest : List ℕ) (place result : Place) → text ≡ bytes → cs ≡ chars text → ds ≡ chars text → place ≡ first_place cs → rest ≡ without_mark ds → result ≡ place_behind place rest → result ≡ place_in bytes
 unfolding place_in
@@ -88,5 +106,22 @@ layout_of-bad bytes n place bad e p =
 
 pub layout_sound : (bytes text : List ℕ) (result : Result Layout Stop) → IsUtf8 bytes → length bytes ≤ 2 ^ 28 → text ≡ bytes → Gives (λ layout. layout) result (unless_faulty (layout_in text) (faults_of (chars text))) → IfOk result IsLayout
 layout_sound bytes text (Ok layout) utf8 short e h =
-    subst IsLayout (ap layout_in (sym e) ∙ (no_faults (layout_in text) layout (faults_of (chars text)) h).0) (sound_in bytes utf8 short)
+    let q = no_faults (layout_in text) layout (faults_of (chars text)) h in
+    subst IsLayout (ap layout_in (sym e) ∙ q.0) (sound_in bytes utf8 short (ap (λ t. faults_of (chars t)) (sym e) ∙ q.1))
 layout_sound bytes text (Err stop) utf8 short e h = tt
+
+-- the tokens of every layout are written as their kinds are
+bad_layout : (bytes : List ℕ) (layout : Layout) → is_utf8 bytes ≡ false → layout_of bytes ≡ Ok layout → ⊥
+unfolding layout_of
+bad_layout bytes layout h e = let f : Err (refused NotUtf8 (place_in (take (utf8_valid_len bytes) bytes))) ≡ Ok layout = sym (cond-false (is_utf8 bytes) _ _ h) ∙ e in cc
+
+good_layout : (bytes : List ℕ) (layout : Layout) → is_utf8 bytes ≡ true → layout_of bytes ≡ Ok layout → unless_faulty (layout_in bytes) (faults_of (chars bytes)) ≡ Ok layout
+unfolding layout_of
+good_layout bytes layout h e = sym (cond-true (is_utf8 bytes) _ _ h) ∙ e
+
+pub written_tokens_lem : (bytes : List ℕ) (layout : Layout) → layout_of bytes ≡ Ok layout → All (IsTokenIn layout.text) layout.tokens
+written_tokens_lem bytes layout e =
+    ⊎_elim (λ h. let q = no_faults (layout_in bytes) layout (faults_of (chars bytes)) (good_layout bytes layout h e) in
+    subst (λ (l : Layout). All (IsTokenIn l.text) l.tokens) q.0 (tokens_in_layout bytes (IsUtf8-from_is_utf8 bytes h) q.1))
+    (λ h. absurd (bad_layout bytes layout h e))
+    (cases_Bool (is_utf8 bytes))

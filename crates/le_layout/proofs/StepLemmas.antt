@@ -55,7 +55,7 @@ next_later place c =
     (λ h. rw (cond-false (c == 10) _ _ h) (omega (arith, width)))
     (cases_Bool (c == 10))
 
-behind_later : (place : Place) (cs : List ℕ) → place.byte + length cs ≤ (place_behind place cs).byte
+pub behind_later : (place : Place) (cs : List ℕ) → place.byte + length cs ≤ (place_behind place cs).byte
 behind_later place [] = omega arith
 behind_later place (c ∷ cs) = omega (arith, next_later place c, behind_later (next_place place c) cs)
 

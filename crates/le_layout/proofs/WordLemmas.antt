@@ -10,7 +10,7 @@ use Rattle.le_layout.specs.Characters.{is_ascii_sign, is_further_sign, is_word_c
 use Rattle.le_layout.specs.Pieces.{joins, goes_on, all_go_on, word_more}
 
 -- a digit stands in words
-digit_small : (c : ℕ) → is_ascii_digit c ≡ true → c < 128
+pub digit_small : (c : ℕ) → is_ascii_digit c ≡ true → c < 128
 digit_small c h = grind (arith, nat_tests, h)
 
 xid_word : (c : ℕ) → is_xid_continue c ≡ true → is_word_character c ≡ true
@@ -29,7 +29,7 @@ joins-none : (a b : ℕ) → joins a b [] ≡ true → ⊥
 unfolding joins
 joins-none a b h = cc
 
-joins-word : (a b c : ℕ) (cs : List ℕ) → joins a b (c ∷ cs) ≡ true → is_word_character c ≡ true
+pub joins-word : (a b c : ℕ) (cs : List ℕ) → joins a b (c ∷ cs) ≡ true → is_word_character c ≡ true
 unfolding joins
 joins-word a b c cs h =
     ⊎_elim (λ k. (and_parts (b == 46) (is_word_character c) k).1)
@@ -40,11 +40,11 @@ goes_on-nil : (a : ℕ) → goes_on a [] ≡ true → ⊥
 unfolding goes_on
 goes_on-nil a h = cc
 
-goes_on-cases : (a b : ℕ) (bs : List ℕ) → goes_on a (b ∷ bs) ≡ (is_word_character b || joins a b bs)
+pub goes_on-cases : (a b : ℕ) (bs : List ℕ) → goes_on a (b ∷ bs) ≡ (is_word_character b || joins a b bs)
 unfolding goes_on
 goes_on-cases a b bs = refl
 
-goes_on-word : (a b : ℕ) (bs : List ℕ) → is_word_character b ≡ true → goes_on a (b ∷ bs) ≡ true
+pub goes_on-word : (a b : ℕ) (bs : List ℕ) → is_word_character b ≡ true → goes_on a (b ∷ bs) ≡ true
 goes_on-word a b bs h = goes_on-cases a b bs ∙ ap (λ t. t || joins a b bs) h
 
 -- more characters behind change nothing

@@ -35,11 +35,10 @@ kind_of c =
     else (if c == 58 then Some kinds.Colon
     else (if c == 42 then Some kinds.Star
     else (if c == 46 then Some kinds.Stop
-    else None)))
-
--- `[`, `]` and `|` are of lists, which this version doesn't read
-unfoldable pub is_list_mark : ℕ → Bool
-is_list_mark c = (c == 91) || ((c == 93) || (c == 124))
+    else (if c == 91 then Some kinds.Open
+    else (if c == 93 then Some kinds.Close
+    else (if c == 124 then Some kinds.Bar
+    else None))))))
 
 -- whether a text begins with this character
 abbrev pub begins_with : ℕ → List ℕ → Bool

@@ -1,5 +1,5 @@
 -- The layout of a text: this project's profile.
-use Rattle.std.specs.Prelude.{◌≡◌, ℕ, ◌+◌, ◌-◌, ◌^◌, ◌<◌, ◌≤◌, if◌then◌else◌, Option, Some, None, Result, Err, List, [], ◌∷◌, ◌++◌, length, take, flat_map, slice_index, slice_index_or, slice_range, All, IsCharBoundary, chars, encode_utf8_all, true}
+use Rattle.std.specs.Prelude.{◌≡◌, ℕ, ◌+◌, ◌-◌, ◌^◌, ◌<◌, ◌≤◌, if◌then◌else◌, Option, Some, None, Result, Err, List, [], ◌∷◌, ◌++◌, length, take, flat_map, slice_index, slice_index_or, slice_range, All, IsCharBoundary, chars}
 use Rattle.std.specs.Str.{is_utf8}
 use Rattle.std.specs.Str.Lossy.{utf8_valid_len}
 use Rattle.le_base.specs.declared.code.Code.TheVariants.{NotUtf8}
@@ -15,8 +15,9 @@ use Rattle.le_layout.specs.declared.piece.Form.TheVariants as forms
 use Rattle.le_layout.specs.Characters.{kind_of}
 use Rattle.le_layout.specs.Places.{place_behind, without_mark, first_place, refused}
 use Rattle.le_layout.specs.Lines.{lines_of}
-use Rattle.le_layout.specs.Pieces.{Piece, pieces_of, is_word}
+use Rattle.le_layout.specs.Pieces.{Piece, pieces_of}
 use Rattle.le_layout.specs.Faults.{faults_from, unless_faulty}
+use Rattle.le_layout.specs.Written.{IsWrittenAs}
 
 -- the token of this kind whose place this is and whose bytes are those from one to another
 abbrev pub token : Kind → Place → ℕ → ℕ → Token
@@ -75,9 +76,13 @@ layout_in text =
     let rows = rows_of (chars text) in
     record { text = text; tokens = flat_map (λ row. row) rows; lines = lines_from 0 rows }
 
--- the place behind the first characters of a text
+-- the place after the first characters of a text
+abbrev pub place_after : List ℕ → Place
+place_after cs = place_behind (first_place cs) (without_mark cs)
+
+-- and after those of its first bytes
 unfoldable pub place_in : List ℕ → Place
-place_in front = place_behind (first_place (chars front)) (without_mark (chars front))
+place_in front = place_after (chars front)
 
 -- the layout of a text, or its refusal: NotUtf8 at the first bad byte, or else the fault of the least place
 unfoldable pub layout_of : List ℕ → Result Layout Refusal
@@ -93,19 +98,25 @@ no_token = record { kind = kinds.Word; from = 0; to = 0; line = 0; column = 0 }
 abbrev pub token_text : Layout → ℕ → List ℕ
 token_text layout k = let t = slice_index_or layout.tokens k no_token in slice_range layout.text t.from t.to
 
--- these bytes are the UTF-8 of a word
-pub record IsWordText (bytes : List ℕ) : Type 0 where
-  pub characters : List ℕ
-  pub word : is_word characters ≡ true
-  pub spelled : encode_utf8_all characters ≡ bytes
+-- the first byte of a token of this kind: a quoted text's is its quotation mark, which stands before the bytes of the token
+abbrev pub first_byte : Kind → ℕ → ℕ
+first_byte kinds.Quote from = from - 1
+first_byte _ from = from
 
--- a token's bytes lie in the text, from the beginning of a character to the beginning of one or the end, and those of a word are a word
+-- A token's bytes lie in the text, from the beginning of a character to the beginning of one or the end; they are what its kind may have; and its line and column are those of the place that the text before it leads to.
 pub record IsTokenIn (text : List ℕ) (t : Token) : Type 0 where
   pub ordered : t.from ≤ t.to
   pub inside : t.to ≤ length text
   pub begins : IsCharBoundary text t.from
   pub ends : IsCharBoundary text t.to
-  pub word : t.kind ≡ kinds.Word → IsWordText (slice_range text t.from t.to)
+  pub written : IsWrittenAs t.kind (slice_range text t.from t.to)
+  pub line : t.line ≡ (place_in (take (first_byte t.kind t.from) text)).line
+  pub column : t.column ≡ (place_in (take (first_byte t.kind t.from) text)).column + 1
+
+-- tokens are in order: none begins before the end of one before it
+abbrev pub InOrder : ℕ → List Token → ℕ → Type 0
+InOrder from [] to = from ≤ to
+InOrder from (t ∷ ts) to = (from ≤ t.from) × (t.from ≤ t.to) × InOrder t.to ts to
 
 -- a line has at least one of so many tokens
 pub record IsLineOver (count : ℕ) (l : Line) : Type 0 where
@@ -122,5 +133,6 @@ pub record IsLayout (layout : Layout) : Type 0 where
   pub short : length layout.text ≤ 2 ^ 28
   pub few : length layout.tokens ≤ length layout.text
   pub tokens : All (IsTokenIn layout.text) layout.tokens
+  pub order : InOrder 0 layout.tokens (length layout.text)
   pub lines : All (IsLineOver (length layout.tokens)) layout.lines
   pub whole : Follow 0 layout.lines (length layout.tokens)

@@ -1,8 +1,11 @@
 pub mod Characters
 pub mod Faults
+pub mod Joined
 pub mod Layout
 pub mod Lines
 pub mod Pieces
 pub mod Places
 pub mod Room
+pub mod Spellings
 pub mod Words
+pub mod Written

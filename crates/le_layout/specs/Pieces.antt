@@ -6,17 +6,17 @@ use Rattle.le_layout.specs.declared.piece.Form.{Form}
 use Rattle.le_layout.specs.declared.piece.Form.TheVariants as forms
 use Rattle.le_layout.specs.Characters.{is_word_character, begins_with}
 
--- whether b, which stands behind the character a of a word, joins it to what follows: a full stop before a character of words, or a comma between two ASCII digits
+-- whether b, which follows the character a of a word, joins it to what follows: a full stop before a character of words, or a comma between two ASCII digits
 unfoldable pub joins : ℕ → ℕ → List ℕ → Bool
 joins a b [] = false
 joins a b (c ∷ cs) = ((b == 46) && is_word_character c) || ((b == 44) && (is_ascii_digit a && is_ascii_digit c))
 
--- whether a word goes on behind its character a
+-- whether a word goes on after its character a
 unfoldable pub goes_on : ℕ → List ℕ → Bool
 goes_on a [] = false
 goes_on a (b ∷ bs) = is_word_character b || joins a b bs
 
--- whether all of these go on a word behind its character a
+-- whether all of these go on a word after its character a
 abbrev pub all_go_on : ℕ → List ℕ → Bool
 all_go_on a [] = true
 all_go_on a (b ∷ bs) = goes_on a (b ∷ bs) && all_go_on b bs
@@ -26,7 +26,7 @@ abbrev pub is_word : List ℕ → Bool
 is_word [] = false
 is_word (a ∷ bs) = is_word_character a && all_go_on a bs
 
--- how many characters go on a word behind its character a
+-- how many characters go on a word after its character a
 abbrev pub word_more : ℕ → List ℕ → ℕ
 word_more a [] = 0
 word_more a (b ∷ bs) = if goes_on a (b ∷ bs) then word_more b bs + 1 else 0
@@ -70,7 +70,7 @@ form_at c cs =
     else (if ends_line c cs then forms.LineEnd
     else forms.Single)))
 
--- how many characters a piece of this form has behind c
+-- how many characters a piece of this form has after c
 unfoldable pub more_at : Form → ℕ → List ℕ → ℕ
 more_at forms.Word c cs = word_more c cs
 more_at forms.Quote c cs = before_quote cs + 1
@@ -79,7 +79,7 @@ more_at forms.Comment c cs = before_end cs
 more_at forms.LineEnd c cs = if c == 13 then 1 else 0
 more_at forms.Single c cs = 0
 
--- the pieces of a line behind so many of its characters
+-- the pieces of a line after so many of its characters
 unfoldable pub pieces_behind : ℕ → List ℕ → List Piece
 pieces_behind n [] = []
 pieces_behind zero (c ∷ cs) =

@@ -7,17 +7,17 @@ use Rattle.le_base.specs.Stop.{refusal_at}
 use Rattle.le_layout.specs.declared.place.Place.{Place}
 use Rattle.le_layout.specs.Characters.{begins_with}
 
--- the column behind a character: a tab leads to the next multiple of 4, any other character leads on by 1
+-- the column after a character: a tab leads to the next multiple of 4, any other character leads on by 1
 abbrev pub next_column : ℕ → ℕ → ℕ
 next_column column c = if c == 9 then (column / 4 + 1) * 4 else column + 1
 
--- the place behind a character, which for LF is the beginning of the next line
+-- the place after a character, which for LF is the beginning of the next line
 unfoldable pub next_place : Place → ℕ → Place
 next_place place c =
     if c == 10 then record { byte = place.byte + 1; line = place.line + 1; column = 0 }
     else record { byte = place.byte + len_utf8 c; line = place.line; column = next_column place.column c }
 
--- the place behind characters that stand one after another
+-- the place after characters that stand one after another
 abbrev pub place_behind : Place → List ℕ → Place
 place_behind place [] = place
 place_behind place (c ∷ cs) = place_behind (next_place place c) cs
@@ -26,7 +26,7 @@ place_behind place (c ∷ cs) = place_behind (next_place place c) cs
 abbrev pub has_mark : List ℕ → Bool
 has_mark cs = begins_with 65_279 cs
 
--- the characters behind it
+-- the characters after it
 abbrev pub without_mark : List ℕ → List ℕ
 without_mark cs = if has_mark cs then drop 1 cs else cs
 

@@ -1,5 +1,5 @@
 ghost use Rattle.std.specs.Prelude.{◌≡◌, IfOk, chars};
-ghost use Rattle.le_layout.specs.Characters.{is_space, is_ascii_sign, is_further_sign, is_word_character, may_be_quoted, may_be_commented, kind_of, is_list_mark, begins_with};
+ghost use Rattle.le_layout.specs.Characters.{is_space, is_ascii_sign, is_further_sign, is_word_character, may_be_quoted, may_be_commented, kind_of, begins_with};
 ghost use Rattle.le_layout.specs.Places.{has_mark, without_mark};
 
 use crate::Kind;
@@ -20,7 +20,7 @@ pub(crate) fn has_mark(chars: &[char]) -> bool
     begins_with('\u{feff}', chars)
 }
 
-// The characters behind a byte order mark.
+// The characters after a byte order mark.
 pub(crate) fn without_mark(chars: &[char]) -> &[char]
     ensures { result.now ≡ without_mark chars.now }
 {
@@ -90,14 +90,9 @@ pub(crate) fn kind_of(c: char) -> Option<Kind>
         ':' => Some(Kind::Colon),
         '*' => Some(Kind::Star),
         '.' => Some(Kind::Stop),
+        '[' => Some(Kind::Open),
+        ']' => Some(Kind::Close),
+        '|' => Some(Kind::Bar),
         _ => None,
     }
-}
-
-// Whether the character is of lists.
-#[tactic(auto, unfolding(crate::specs::Characters::is_list_mark))]
-pub(crate) fn is_list_mark(c: char) -> bool
-    ensures { result ≡ is_list_mark c }
-{
-    matches!(c, '[' | ']' | '|')
 }

@@ -1,35 +1,35 @@
-ghost use Rattle.std.specs.Prelude.{◌≡◌, ◌+◌, ◌≤◌, ◌<◌, ◌&&◌, ◌++◌, ◌∷◌, [], length, if◌then◌else◌, slice_index};
+ghost use Rattle.std.specs.Prelude.{◌≡◌, ◌+◌, ◌≤◌, ◌<◌, ◌&&◌, ◌++◌, ◌∷◌, [], length, if◌then◌else◌, slice_index, encode_utf8_all};
 ghost use Rattle.std.specs.List.{list_all};
-ghost use Rattle.std.specs.Char.{is_ascii_digit};
 ghost use Rattle.le_base.specs.declared.code.Code.TheVariants.{BadCharacter};
 ghost use Rattle.le_layout.specs.Characters.{may_be_quoted, may_be_commented, begins_with};
 ghost use Rattle.le_layout.specs.Places.{place_behind, refused};
 ghost use Rattle.le_layout.specs.Room.{HasRoom};
-ghost use Rattle.le_layout.specs.Faults.{is_numeral, is_numerals, is_number_like, is_date_like, word_faults, faults_among, single_faults, own_faults, is_word_form, first_fault};
+ghost use Rattle.le_layout.specs.Faults.{is_numeral, is_numerals, is_number_like, is_bad_number, is_bad_date, word_faults, faults_among, single_faults, own_faults, is_word_form, first_fault};
 
-use crate::characters::{
-    begins_with, is_list_mark, is_space, kind_of, may_be_commented, may_be_quoted,
-};
+use crate::characters::{begins_with, is_space, kind_of, may_be_commented, may_be_quoted};
 use crate::piece::Form;
 use crate::place::{Place, next_place, refused};
 use le_base::{Code, Refusal};
+use le_values::{day_of, has_date_form, number_of};
 use std::alloc::Global;
 
-// The first fault of a piece of this form at a place, before the rest of its line.
+// The first fault of a piece of this form at a place, before the rest of its line. The text is the piece's.
 pub(crate) fn fault_at(
     alloc: Global,
     form: Form,
+    text: &str,
     chars: &[char],
     rest: &[char],
     place: Place,
     behind: Place,
 ) -> Option<Refusal>
     requires some { 0 < length chars.now }
+    requires spelled { text.now ≡ encode_utf8_all chars.now }
     requires room { HasRoom place (length chars.now) }
     requires room_behind { HasRoom behind 0 }
     ensures { result ≡ first_fault (own_faults place form chars.now ++ (if is_word_form form && begins_with 37 rest.now then refused BadCharacter behind ∷ [] else [])) }
 {
-    let own = own_fault(alloc, form, chars, place);
+    let own = own_fault(alloc, form, text, chars, place);
     if own.is_none() && matches!(form, Form::Word) && begins_with('%', rest) {
         return Some(refused(alloc, Code::BadCharacter, behind));
     }
@@ -38,13 +38,14 @@ pub(crate) fn fault_at(
 
 // The first fault of a piece of this form by itself.
 #[tactic(auto, unfolding(crate::specs::Faults::own_faults))]
-fn own_fault(alloc: Global, form: Form, chars: &[char], place: Place) -> Option<Refusal>
+fn own_fault(alloc: Global, form: Form, text: &str, chars: &[char], place: Place) -> Option<Refusal>
     requires some { 0 < length chars.now }
+    requires spelled { text.now ≡ encode_utf8_all chars.now }
     requires room { HasRoom place (length chars.now) }
     ensures { result ≡ first_fault (own_faults place form chars.now) }
 {
     match form {
-        Form::Word => word_fault(alloc, chars, place),
+        Form::Word => word_fault(alloc, text, place),
         Form::Quote => fault_in_quote(alloc, chars, place),
         Form::OpenQuote => Some(refused(alloc, Code::OpenQuote, place)),
         Form::Comment => fault_in_comment(alloc, chars, place),
@@ -53,14 +54,16 @@ fn own_fault(alloc: Global, form: Form, chars: &[char], place: Place) -> Option<
     }
 }
 
-// Whether a word is a number or a date, which this version doesn't read.
+// The fault of a word: one that looks like a number or a date has to be one.
 #[tactic(auto, unfolding(crate::specs::Faults::word_faults))]
-fn word_fault(alloc: Global, word: &[char], place: Place) -> Option<Refusal>
+fn word_fault(alloc: Global, word: &str, place: Place) -> Option<Refusal>
     requires { HasRoom place 0 }
     ensures { result ≡ first_fault (word_faults place word.now) }
 {
-    if is_number_like(word) || is_date_like(word) {
-        Some(refused(alloc, Code::Unbuilt, place))
+    if is_bad_number(word) {
+        Some(refused(alloc, Code::BadNumber, place))
+    } else if is_bad_date(word) {
+        Some(refused(alloc, Code::BadDate, place))
     } else {
         None
     }
@@ -110,19 +113,33 @@ fn single_fault(alloc: Global, c: char, place: Place) -> Option<Refusal>
 {
     if is_space(c) || kind_of(c).is_some() {
         None
-    } else if is_list_mark(c) {
-        Some(refused(alloc, Code::Unbuilt, place))
     } else {
         Some(refused(alloc, Code::BadCharacter, place))
     }
 }
 
+// Whether a word of these bytes is number-like and no number.
+#[tactic(auto, unfolding(crate::specs::Faults::is_bad_number))]
+fn is_bad_number(word: &str) -> bool
+    ensures { result ≡ is_bad_number word.now }
+{
+    is_number_like(word.as_bytes()) && number_of(word).is_none()
+}
+
+// Whether a word of these bytes has the form of a date and is none.
+#[tactic(auto, unfolding(crate::specs::Faults::is_bad_date))]
+fn is_bad_date(word: &str) -> bool
+    ensures { result ≡ is_bad_date word.now }
+{
+    has_date_form(word) && day_of(word).is_none()
+}
+
 // Whether the word is an optional `-`, a digit, and then any digits, full stops and commas.
 #[tactic(auto, unfolding(crate::specs::Faults::is_number_like))]
-fn is_number_like(word: &[char]) -> bool
+fn is_number_like(word: &[u8]) -> bool
     ensures { result ≡ is_number_like word.now }
 {
-    if begins_with('-', word) {
+    if !word.is_empty() && word[0] == b'-' {
         is_numerals(&word[1..])
     } else {
         is_numerals(word)
@@ -131,42 +148,22 @@ fn is_number_like(word: &[char]) -> bool
 
 // Whether these are a digit, and then any digits, full stops and commas.
 #[tactic(auto, unfolding(crate::specs::Faults::is_numerals))]
-fn is_numerals(chars: &[char]) -> bool
-    ensures { result ≡ is_numerals chars.now }
+fn is_numerals(bytes: &[u8]) -> bool
+    ensures { result ≡ is_numerals bytes.now }
 {
-    !chars.is_empty() && chars[0].is_ascii_digit() && all_numeral(&chars[1..])
+    !bytes.is_empty() && bytes[0].is_ascii_digit() && all_numeral(&bytes[1..])
 }
 
 // Whether these are digits, full stops and commas.
-fn all_numeral(chars: &[char]) -> bool
-    ensures { result ≡ list_all is_numeral chars.now }
+fn all_numeral(bytes: &[u8]) -> bool
+    ensures { result ≡ list_all is_numeral bytes.now }
 {
-    chars.iter().all(|c| is_numeral(*c))
+    bytes.iter().all(|byte| is_numeral(*byte))
 }
 
 #[tactic(auto, unfolding(crate::specs::Faults::is_numeral))]
-fn is_numeral(c: char) -> bool
-    ensures { result ≡ is_numeral c }
+fn is_numeral(byte: u8) -> bool
+    ensures { result ≡ is_numeral byte }
 {
-    c.is_ascii_digit() || matches!(c, '.' | ',')
-}
-
-// Whether the word is four digits, `-`, two digits, `-` and two digits.
-#[tactic(auto, unfolding(crate::specs::Faults::is_date_like))]
-fn is_date_like(word: &[char]) -> bool
-    ensures { result ≡ is_date_like word.now }
-{
-    word.len() == 10
-        && all_digits(&word[..4])
-        && word[4] == '-'
-        && all_digits(&word[5..7])
-        && word[7] == '-'
-        && all_digits(&word[8..10])
-}
-
-// Whether these are ASCII digits.
-fn all_digits(chars: &[char]) -> bool
-    ensures { result ≡ list_all is_ascii_digit chars.now }
-{
-    chars.iter().all(|c| c.is_ascii_digit())
+    byte.is_ascii_digit() || matches!(byte, b'.' | b',')
 }

@@ -17,8 +17,8 @@ pub struct Layout {
 }
 
 impl Layout {
-    /// The text of the token with this number, counted from 0. The layout is a sound one and has the
-    /// token. It takes no memory.
+    /// The text of the token with this number, counted from 0. The layout is valid and has the
+    /// token.
     pub fn word(&self, token: u32) -> &str
         requires sound { IsLayout self.now }
         requires inside { token < length self.now.tokens }
@@ -28,7 +28,7 @@ impl Layout {
         &self.text.as_str()[token.from as usize..token.to as usize]
     }
 
-    /// The token with this number, counted from 0. The layout has it. It takes no memory.
+    /// The token with this number, counted from 0. The layout has it.
     pub fn token(&self, token: u32) -> Token
         requires inside { token < length self.now.tokens }
         ensures { result ≡ token_of self.now token }
@@ -36,8 +36,8 @@ impl Layout {
         self.tokens.as_slice()[token as usize]
     }
 
-    /// Whether the token with this number is this word, ASCII case ignored. The layout is a sound one and
-    /// has the token. It takes no memory.
+    /// Whether the token with this number is this word, ASCII case ignored. The layout is valid and has the
+    /// token.
     #[tactic(auto, unfolding(crate::specs::Words::has_word))]
     pub fn has_word(&self, token: u32, word: &str) -> bool
         requires sound { IsLayout self.now }

@@ -1,4 +1,6 @@
-//! The layout of a text: its tokens with their places, and its lines that have a token.
+//! The layout of a text: its tokens with their places, and its lines that have a token. It takes bytes,
+//! and gives a layout or a refusal. It knows characters, words, numbers and dates, and no headers,
+//! sentences or phrases.
 #![tactic(auto)]
 
 mod characters;
@@ -13,7 +15,7 @@ mod scanning;
 mod tests;
 mod token;
 
-pub use laws::{one_cut, whole_lines};
+pub use laws::{least_fault, one_cut, scans_back, values_are_words, whole_lines, written_tokens};
 pub use layout::Layout;
 pub use scanning::scan;
 pub use token::{Kind, Line, Lines, Token, Tokens};

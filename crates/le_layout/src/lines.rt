@@ -3,7 +3,7 @@ ghost use Rattle.le_base.specs.Stop.{Gives};
 ghost use Rattle.le_layout.specs.Lines.{first_line, lines_of};
 ghost use Rattle.le_layout.specs.Pieces.{pieces_of};
 ghost use Rattle.le_layout.specs.Places.{place_behind};
-ghost use Rattle.le_layout.specs.Room.{HasRoom};
+ghost use Rattle.le_layout.specs.Room.{HasRoom, StandsIn};
 ghost use Rattle.le_layout.specs.Faults.{faults_at, faults_from, unless_faulty};
 ghost use Rattle.le_layout.specs.Layout.{token_at, single_token, tokens_at, rows_from, line_of, lines_from, as_list, token};
 ghost use Rattle.le_layout.specs.declared.token.Token.{Token};
@@ -17,14 +17,16 @@ use crate::{Kind, Line, Token};
 use le_base::Stop;
 use std::alloc::{AllocError, Global};
 
-// The tokens and the lines of characters from a place on.
+// The tokens and the lines of the characters of a text from a place on.
 pub(crate) fn scan_lines(
     alloc: Global,
+    text: &str,
     chars: &[char],
     from: Place,
 ) -> Result<(Vec<Token>, Vec<Line>), Stop>
     requires room { HasRoom from (length chars.now) }
     requires short { length chars.now < 2 ^ 32 }
+    requires lie { StandsIn text.now from chars.now }
     ensures { Gives {Y = List Token × List Line} (λ r. (r.0.items, r.1.items)) result (unless_faulty (flat_map (λ row. row) (rows_from from (lines_of chars.now)), lines_from 0 (rows_from from (lines_of chars.now))) (faults_from from (lines_of chars.now))) }
 {
     let mut tokens = Vec::new(alloc);
@@ -34,7 +36,7 @@ pub(crate) fn scan_lines(
     while at < chars.len() {
         let first = tokens.len();
         let end = at + line_len(&chars[at..]);
-        place = scan_line(alloc, &chars[at..end], place, &mut tokens)?;
+        place = scan_line(alloc, text, &chars[at..end], place, &mut tokens)?;
         push_line(&mut lines, tokens.as_slice(), first)?;
         at = end;
     }
@@ -56,14 +58,16 @@ fn line_len(rest: &[char]) -> usize
     len
 }
 
-// Pushes the tokens of a line that begins at a place, and gives the place behind it.
+// Pushes the tokens of a line of a text that begins at a place, and gives the place after it.
 fn scan_line(
     alloc: Global,
+    text: &str,
     line: &[char],
     from: Place,
     tokens: &mut Vec<Token>,
 ) -> Result<Place, Stop>
     requires room { HasRoom from (length line.now) }
+    requires lie { StandsIn text.now from line.now }
     ensures place { Gives (λ place. place) result (unless_faulty (place_behind from line.now) (faults_at from (pieces_of line.now))) }
     ensures pushed { OnOk result (tokens.new.items ≡ tokens.old.items ++ tokens_at from (pieces_of line.now)) }
     ensures count { OnOk result (vec_len tokens.new ≤ vec_len tokens.old + length line.now) }
@@ -75,7 +79,8 @@ fn scan_line(
         let end = at + width;
         let chars = &line[at..end];
         let behind = place_behind(place, chars);
-        if let Some(refusal) = fault_at(alloc, form, chars, &line[end..], place, behind) {
+        let piece = &text[place.byte as usize..behind.byte as usize];
+        if let Some(refusal) = fault_at(alloc, form, piece, chars, &line[end..], place, behind) {
             return Err(Stop::Refused(refusal));
         }
         if let Some(token) = token_at(form, chars, place, behind.byte) {

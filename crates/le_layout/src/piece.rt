@@ -50,7 +50,7 @@ fn form_at(first: char, rest: &[char]) -> Form
     }
 }
 
-// How many characters a piece of this form has behind its first.
+// How many characters a piece of this form has after its first.
 #[tactic(auto, unfolding(crate::specs::Pieces::more_at))]
 fn more_at(form: Form, first: char, rest: &[char]) -> usize
     requires { form ≡ form_at first rest.now }
@@ -66,7 +66,7 @@ fn more_at(form: Form, first: char, rest: &[char]) -> usize
     }
 }
 
-// How many characters go on a word behind its character.
+// How many characters go on a word after its character.
 fn word_more(first: char, rest: &[char]) -> usize
     ensures value { result ≡ word_more first rest.now }
     ensures inside { result ≤ length rest.now }
@@ -80,7 +80,7 @@ fn word_more(first: char, rest: &[char]) -> usize
     len
 }
 
-// Whether a word goes on behind its character.
+// Whether a word goes on after its character.
 #[tactic(auto, unfolding(crate::specs::Pieces::goes_on))]
 fn goes_on(last: char, rest: &[char]) -> bool
     ensures { result ≡ goes_on last rest.now }
@@ -88,7 +88,7 @@ fn goes_on(last: char, rest: &[char]) -> bool
     !rest.is_empty() && (is_word_character(rest[0]) || joins(last, rest[0], &rest[1..]))
 }
 
-// Whether a full stop or comma behind a word's character joins it to what follows.
+// Whether a full stop or comma after a word's character joins it to what follows.
 #[tactic(auto, unfolding(crate::specs::Pieces::joins))]
 fn joins(last: char, mark: char, rest: &[char]) -> bool
     ensures { result ≡ joins last mark rest.now }

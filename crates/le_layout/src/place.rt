@@ -18,7 +18,7 @@ pub struct Place {
     pub column: u32,
 }
 
-// The place of the first character of a text behind its byte order mark.
+// The place of the first character of a text after its byte order mark.
 pub(crate) fn first_place(chars: &[char]) -> Place
     ensures { result ≡ first_place chars.now }
 {
@@ -29,7 +29,7 @@ pub(crate) fn first_place(chars: &[char]) -> Place
     }
 }
 
-// The place behind characters that stand one after another.
+// The place after characters that stand one after another.
 pub(crate) fn place_behind(from: Place, chars: &[char]) -> Place
     requires { HasRoom from (length chars.now) }
     ensures { result ≡ place_behind from chars.now }
@@ -43,7 +43,7 @@ pub(crate) fn place_behind(from: Place, chars: &[char]) -> Place
     place
 }
 
-// The place behind a character.
+// The place after a character.
 #[tactic(auto, unfolding(crate::specs::Places::next_place))]
 pub(crate) fn next_place(place: Place, c: char) -> Place
     requires { HasRoom place 1 }
@@ -64,7 +64,7 @@ pub(crate) fn next_place(place: Place, c: char) -> Place
     }
 }
 
-// The column behind a character.
+// The column after a character.
 fn next_column(column: u32, c: char) -> u32
     requires { column < 2 ^ 32 - 4 }
     ensures { result ≡ next_column column c }

@@ -19,8 +19,10 @@ use std::str;
 /// It is refused with `NotUtf8` exactly where the bytes aren't UTF-8, at the first bad byte. Otherwise
 /// it is refused exactly where one of the following holds, of which the least place decides: with
 /// `BadCharacter` at a character that stands where none of its kind may stand, with `OpenQuote` at a
-/// quotation mark that none follows on its line, and with `Unbuilt` at a word that is number-like or of
-/// the form of a date and at a `[`, `]` or `|` that is a token. The other error is want of memory.
+/// quotation mark that none follows on its line, with `BadNumber` at a word that is an optional `-`, a
+/// digit and then digits, full stops and commas, but no number from -10^18 to 10^18, and with `BadDate`
+/// at a word of the form of a date that is no date of the years 0001 to 9999. The other error is out of
+/// memory.
 pub fn scan(alloc: Global, bytes: &[u8]) -> Result<Layout, Stop>
     requires { length bytes.now ≤ 2 ^ 28 }
     ensures exact { Gives (λ layout. layout) result (layout_of bytes.now) }
@@ -41,7 +43,7 @@ fn layout(alloc: Global, text: &str) -> Result<Layout, Stop>
     ensures { Gives (λ layout. layout) result (unless_faulty (layout_in text.now) (faults_of (chars text.now))) }
 {
     let chars = characters(alloc, text)?;
-    let (tokens, lines) = scan_lines(alloc, without_mark(&chars), first_place(&chars))?;
+    let (tokens, lines) = scan_lines(alloc, text, without_mark(&chars), first_place(&chars))?;
     Ok(Layout {
         text: Text::of(alloc, text)?,
         tokens: Tokens::from_vec(tokens),
@@ -49,7 +51,7 @@ fn layout(alloc: Global, text: &str) -> Result<Layout, Stop>
     })
 }
 
-// The place behind the first bytes of a text, which are UTF-8.
+// The place after the first bytes of a text, which are UTF-8.
 fn place_in(alloc: Global, front: &[u8]) -> Result<Place, AllocError>
     requires short { length front.now ≤ 2 ^ 28 }
     requires utf8 { IsUtf8 front.now }

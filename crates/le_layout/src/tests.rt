@@ -8,7 +8,7 @@ use std::test::Fail;
 
 // A layout as a text: each line with its number, its indent and its tokens, and each of these with its
 // kind, its place and its text.
-fn told(alloc: Global, layout: &Layout) -> Result<String, AllocError>
+fn listing(alloc: Global, layout: &Layout) -> Result<String, AllocError>
     requires { IsLayout layout.now }
 {
     let mut out = String::new(alloc);
@@ -49,7 +49,7 @@ fn fault(alloc: Global, bytes: &[u8]) -> [u32; 3]
     }
 }
 
-const WORDS: [(&str, &str); 10] = [
+const WORDS: [(&str, &str); 13] = [
     ("", ""),
     (
         "a..b",
@@ -58,6 +58,18 @@ const WORDS: [(&str, &str); 10] = [
     ("Bob.Ann.", "1+0 0..2: Word 1:1 Bob.Ann Stop 1:8 .\n"),
     ("1.a a1,2b", "1+0 0..2: Word 1:1 1.a Word 1:5 a1,2b\n"),
     ("a,b", "1+0 0..3: Word 1:1 a Comma 1:2 , Word 1:3 b\n"),
+    (
+        "1,a 5.",
+        "1+0 0..5: Word 1:1 1 Comma 1:2 , Word 1:3 a Word 1:5 5 Stop 1:6 .\n",
+    ),
+    (
+        "-0 007 2024-02-29 -1000000000000000000 1000000000000000000",
+        "1+0 0..5: Word 1:1 -0 Word 1:4 007 Word 1:8 2024-02-29 Word 1:19 -1000000000000000000 Word 1:40 1000000000000000000\n",
+    ),
+    (
+        "[1 | x]",
+        "1+0 0..5: Open 1:1 [ Word 1:2 1 Bar 1:4 | Word 1:6 x Close 1:7 ]\n",
+    ),
     (
         "2024-01 7th --5",
         "1+0 0..3: Word 1:1 2024-01 Word 1:9 7th Word 1:13 --5\n",
@@ -71,7 +83,10 @@ const WORDS: [(&str, &str); 10] = [
         "it's R&D/x \u{a3}5",
         "1+0 0..3: Word 1:1 it's Word 1:6 R&D/x Word 1:12 \u{a3}5\n",
     ),
-    ("a\u{a0}b_c", "1+0 0..2: Word 1:1 a Word 1:3 b_c\n"),
+    (
+        "a\u{a0}b_c \u{ff15}.\u{ff15}",
+        "1+0 0..3: Word 1:1 a Word 1:3 b_c Word 1:7 \u{ff15}.\u{ff15}\n",
+    ),
 ];
 
 const LINES: [(&str, &str); 12] = [
@@ -93,7 +108,7 @@ const LINES: [(&str, &str); 12] = [
         "1+4 0..1: Word 1:5 Bob\n2+4 1..2: Word 2:5 Ann\n",
     ),
     ("\u{feff}Bob", "1+0 0..1: Word 1:1 Bob\n"),
-    ("% only, [5\n a", "2+1 0..1: Word 2:2 a\n"),
+    ("% only, 5.5 \u{feff}\u{0}\n a", "2+1 0..1: Word 2:2 a\n"),
     ("a.% c", "1+0 0..2: Word 1:1 a Stop 1:2 .\n"),
     ("\"a\"%c", "1+0 0..1: Quote 1:1 a\n"),
     (
@@ -121,16 +136,16 @@ const FAULTS: [(&str, [u32; 3]); 26] = [
     ("abc\t=", [3, 1, 5]),
     ("abcd\t=", [3, 1, 9]),
     ("\u{e9}\u{a0}=", [3, 1, 3]),
-    ("5", [25, 1, 1]),
-    ("a\n -007", [25, 2, 2]),
-    ("x 1,2", [25, 1, 3]),
-    ("1,a", [25, 1, 1]),
-    ("5.5%", [25, 1, 1]),
-    ("2024-02-30", [25, 1, 1]),
-    ("thing 5 =", [25, 1, 7]),
-    ("a [", [25, 1, 3]),
-    ("]", [25, 1, 1]),
-    ("a.|", [25, 1, 3]),
+    ("\"a\rb\"", [3, 1, 3]),
+    ("\"a\" = \"", [3, 1, 5]),
+    ("]5.5%", [24, 1, 2]),
+    ("a\n 1,000", [24, 2, 2]),
+    ("thing 5.5 =", [24, 1, 7]),
+    ("1000000000000000001", [24, 1, 1]),
+    ("x -1000000000000000001", [24, 1, 3]),
+    ("2023-02-30", [23, 1, 1]),
+    ("% 2023-02-29\n2023-02-29", [23, 2, 1]),
+    ("0000-01-01 5.5", [23, 1, 1]),
 ];
 
 #[test]
@@ -139,7 +154,7 @@ fn words(rt: HostRuntime) -> Result<(), Fail> {
         let bytes = text.as_bytes();
         if bytes.len() <= 1000 {
             let layout = scan(rt.alloc(), bytes)?;
-            assert_eq!(rt; told(rt.alloc(), &layout)?.as_str(), expected);
+            assert_eq!(rt; listing(rt.alloc(), &layout)?.as_str(), expected);
         }
     }
     Ok(())
@@ -151,7 +166,7 @@ fn lines(rt: HostRuntime) -> Result<(), Fail> {
         let bytes = text.as_bytes();
         if bytes.len() <= 1000 {
             let layout = scan(rt.alloc(), bytes)?;
-            assert_eq!(rt; told(rt.alloc(), &layout)?.as_str(), expected);
+            assert_eq!(rt; listing(rt.alloc(), &layout)?.as_str(), expected);
         }
     }
     Ok(())

@@ -114,21 +114,21 @@ impl Model for Tokens {
 }
 
 impl Tokens {
-    /// The tokens of a vector. It takes no memory.
+    /// The tokens of a vector.
     pub fn from_vec(items: Vec<Token>) -> Self
         ensures { result ≡ items.items }
     {
         Tokens { items }
     }
 
-    /// The vector of the tokens. It takes no memory.
+    /// The vector of the tokens.
     pub fn into_vec(self) -> Vec<Token>
         ensures { result.items ≡ self }
     {
         self.items
     }
 
-    /// The tokens, borrowed. It takes no memory.
+    /// The tokens, borrowed.
     pub fn as_slice(&self) -> &[Token]
         ensures { result.now ≡ self.now }
     {
@@ -152,21 +152,21 @@ impl Model for Lines {
 }
 
 impl Lines {
-    /// The lines of a vector. It takes no memory.
+    /// The lines of a vector.
     pub fn from_vec(items: Vec<Line>) -> Self
         ensures { result ≡ items.items }
     {
         Lines { items }
     }
 
-    /// The vector of the lines. It takes no memory.
+    /// The vector of the lines.
     pub fn into_vec(self) -> Vec<Line>
         ensures { result.items ≡ self }
     {
         self.items
     }
 
-    /// The lines, borrowed. It takes no memory.
+    /// The lines, borrowed.
     pub fn as_slice(&self) -> &[Line]
         ensures { result.now ≡ self.now }
     {

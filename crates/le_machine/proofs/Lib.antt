@@ -1,5 +1,9 @@
 pub mod Advancing
 pub mod Built
+pub mod Children
+pub mod Keeping
 pub mod Parts
 pub mod Raising
-pub mod Visiting
+pub mod SelectedAt
+pub mod Turning
+pub mod Walks

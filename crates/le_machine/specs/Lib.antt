@@ -1,3 +1,4 @@
 pub mod Changing
-pub mod Choices
+pub mod Keeping
 pub mod State
+pub mod Turns

@@ -1,18 +1,21 @@
 -- What contracts see of a machine.
-use Rattle.std.specs.Prelude.{◌≡◌, ℕ, ◌+◌, ◌-◌, ◌≤◌, ◌<◌, ◌≢◌, List, [], ◌∷◌, ◌++◌, length, slice_get, Option, Some, option_map}
+use Rattle.std.specs.Prelude.{None, reverse, ◌≡◌, ℕ, ◌+◌, ◌-◌, ◌≤◌, ◌<◌, ◌≢◌, List, [], length, slice_get, Option, Some, option_map}
 use Rattle.le_terms.specs.Tree.{Tree}
 use Rattle.le_terms.specs.Variables.{canonical_of}
 use Rattle.le_terms.specs.Program.{IsProgram}
 use Rattle.le_terms.specs.declared.program.Program.{Program}
 use Rattle.le_proofs.specs.declared.next.Next.{Next}
 use Rattle.le_proofs.specs.declared.next.Next.TheVariants.{Answer, Done, Floundered, OutOfRange, Spent}
-use Rattle.le_proofs.specs.Search.{Leaf, before_visit, search_of, answers_of, end_of, used_of, selections_at, next_of, under_way}
+use Rattle.le_proofs.specs.Proofs.{Leaf}
+use Rattle.le_proofs.specs.Search.{search_of, answers_of, end_of, used_of, selections_at, next_of}
 use Rattle.le_machine.specs.declared.phase.Phase.{Phase}
 use Rattle.le_machine.specs.declared.phase.Phase.TheVariants.{Fresh, Told, Lost}
-use Rattle.le_machine.specs.declared.goals.Choice.{Choice}
+use Rattle.le_machine.specs.declared.goals.Stack.{Stack}
+use Rattle.le_machine.specs.declared.goals.OpenGoal.{OpenGoal}
+use Rattle.le_machine.specs.declared.goals.SubSearch.{SubSearch}
 use Rattle.le_machine.specs.declared.goals.Found.{Found}
 use Rattle.le_machine.specs.declared.goals.Found.TheVariants.{Leaf as Found_leaf, End}
-use Rattle.le_machine.specs.Choices.{all_goals, AreLow}
+use Rattle.le_machine.specs.Keeping.{IsUnderWay, AreOpen}
 
 -- a machine as contracts see it: its program and budget, how many answers it gave, and what its calls of `next` answered
 pub record Shown : Type 0 where
@@ -63,17 +66,13 @@ Selections shown (Told (OutOfRange line)) n = n ≡ used_of shown.program shown.
 Selections shown (Told Spent) n = n ≡ used_of shown.program shown.budget
 Selections shown Lost n = Unit {0}
 
--- the leaves given so far, before what the open goals and the selections left still give, are the whole search
-pub record IsUnderWay (program : Program) (budget given left : ℕ) (choices : List Choice) (leaves : List Leaf) : Type 0 where
-  pub count : length leaves ≡ given
-  pub whole : before_visit leaves (under_way program (all_goals program.clauses choices []) left) ≡ search_of program budget
-  pub fits : left ≤ budget
-  pub low : AreLow left choices
-
--- the machine gave a leaf with these terms
-pub record IsAtLeaf (program : Program) (budget given left : ℕ) (choices : List Choice) (terms : List Tree) : Type 0 where
-  pub before : List Leaf
-  pub way : IsUnderWay program budget given left choices (before ++ record { terms = terms; left = left } ∷ [])
+-- a machine that gave a leaf with these terms: it goes on behind it
+pub record IsAtLeaf (program : Program) (budget given left : ℕ) (opens : List OpenGoal) (searches : List SubSearch) (terms : List Tree) : Type 0 where
+  pub way : IsUnderWay program budget given left opens searches None
+  pub leaf : Leaf
+  pub place : slice_get (answers_of program budget) (given - 1) ≡ Some leaf
+  pub terms_ : leaf.terms ≡ terms
+  pub left_ : leaf.left ≡ left
 
 -- the machine gave the end
 pub record IsAtEnd (program : Program) (budget given left : ℕ) (next : Next) : Type 0 where
@@ -82,40 +81,50 @@ pub record IsAtEnd (program : Program) (budget given left : ℕ) (next : Next) :
   pub selections : (search_of program budget).left ≡ left
 
 -- what holds of the parts of a machine that gave this
-abbrev pub StandsAt : Next → Program → ℕ → ℕ → ℕ → List Choice → List Tree → Type 0
-StandsAt Answer program budget given left choices terms = IsAtLeaf program budget given left choices terms
-StandsAt Done program budget given left choices terms = IsAtEnd program budget given left Done
-StandsAt (Floundered line) program budget given left choices terms = IsAtEnd program budget given left (Floundered line)
-StandsAt (OutOfRange line) program budget given left choices terms = IsAtEnd program budget given left (OutOfRange line)
-StandsAt Spent program budget given left choices terms = IsAtEnd program budget given left Spent
+abbrev pub StandsAt : Next → Program → ℕ → ℕ → ℕ → Stack → List Tree → Type 0
+StandsAt Answer program budget given left stack terms = IsAtLeaf program budget given left (reverse stack.goals.items) (reverse stack.searches.items) terms
+StandsAt Done program budget given left stack terms = IsAtEnd program budget given left Done
+StandsAt (Floundered line) program budget given left stack terms = IsAtEnd program budget given left (Floundered line)
+StandsAt (OutOfRange line) program budget given left stack terms = IsAtEnd program budget given left (OutOfRange line)
+StandsAt Spent program budget given left stack terms = IsAtEnd program budget given left Spent
+
+-- nothing is kept
+abbrev pub IsEmpty : Stack → Type 0
+IsEmpty stack = (stack.goals.items ≡ []) × (stack.searches.items ≡ [])
 
 -- what holds of the parts of a machine
-abbrev pub Stands : Phase → Program → ℕ → ℕ → ℕ → List Choice → List Tree → Type 0
-Stands Fresh program budget given left choices terms = (given ≡ 0) × (left ≡ budget) × (choices ≡ [])
-Stands (Told next) program budget given left choices terms = StandsAt next program budget given left choices terms
-Stands Lost program budget given left choices terms = Unit {0}
+abbrev pub Stands : Phase → Program → ℕ → ℕ → ℕ → Stack → List Tree → Type 0
+Stands Fresh program budget given left stack terms = (given ≡ 0) × (left ≡ budget) × IsEmpty stack
+Stands (Told next) program budget given left stack terms = StandsAt next program budget given left stack terms
+Stands Lost program budget given left stack terms = Unit {0}
+
+-- a search can be asked for its next answer: its open goals are ready
+abbrev pub CanAdvanceAfter : Next → ℕ → Stack → Type 0
+CanAdvanceAfter Answer left stack = AreOpen left stack.goals.items
+CanAdvanceAfter Done left stack = Unit {0}
+CanAdvanceAfter (Floundered line) left stack = Unit {0}
+CanAdvanceAfter (OutOfRange line) left stack = Unit {0}
+CanAdvanceAfter Spent left stack = Unit {0}
+
+abbrev pub CanAdvance : Phase → ℕ → Stack → Type 0
+CanAdvance Fresh left stack = (left ≤ 1000000) × IsEmpty stack
+CanAdvance (Told next) left stack = CanAdvanceAfter next left stack
+CanAdvance Lost left stack = Unit {0}
 
 -- a machine's program and budget are well formed, and its parts stand so
-pub record IsMachine (program : Program) (budget given : ℕ) (phase : Phase) (left : ℕ) (choices : List Choice) (terms : List Tree) : Type 0 where
+pub record IsMachine (program : Program) (budget given : ℕ) (phase : Phase) (left : ℕ) (stack : Stack) (terms : List Tree) : Type 0 where
   pub program_ : IsProgram program
   pub small : budget ≤ 1000000
   pub fits : left ≤ budget
-  pub stands : Stands phase program budget given left choices terms
-
--- a search can be asked for its next answer: its numbers of next variables are so low
-abbrev pub CanAdvanceAfter : Next → ℕ → List Choice → Type 0
-CanAdvanceAfter Answer left choices = AreLow left choices
-CanAdvanceAfter Done left choices = Unit {0}
-CanAdvanceAfter (Floundered line) left choices = Unit {0}
-CanAdvanceAfter (OutOfRange line) left choices = Unit {0}
-CanAdvanceAfter Spent left choices = Unit {0}
-
-abbrev pub CanAdvance : Phase → ℕ → List Choice → Type 0
-CanAdvance Fresh left choices = (left ≤ 1000000) × (choices ≡ [])
-CanAdvance (Told next) left choices = CanAdvanceAfter next left choices
-CanAdvance Lost left choices = Unit {0}
+  pub stands : Stands phase program budget given left stack terms
+  pub advances : CanAdvance phase left stack
 
 -- what a search that is asked for its next answer finds: a leaf more, or the end
-abbrev pub Advances : Program → ℕ → ℕ → Found → ℕ → List Choice → Type 0
-Advances program budget given (Found_leaf terms) left choices = (given < length (answers_of program budget)) × IsAtLeaf program budget (given + 1) left choices terms.items
-Advances program budget given (End next) left choices = (next ≢ Answer) × IsAtEnd program budget given left next
+abbrev pub Advances : Program → ℕ → ℕ → Found → ℕ → List OpenGoal → List SubSearch → Type 0
+Advances program budget given (Found_leaf terms) left opens searches = (given < length (answers_of program budget)) × IsAtLeaf program budget (given + 1) left opens searches terms.items
+Advances program budget given (End next) left opens searches = (next ≢ Answer) × IsAtEnd program budget given left next
+
+-- after a leaf the search can go on
+abbrev pub AdvancesFor : Found → ℕ → Stack → Type 0
+AdvancesFor (Found_leaf terms) left stack = AreOpen left stack.goals.items
+AdvancesFor (End next) left stack = Unit {0}

@@ -2,13 +2,19 @@
 #![tactic(auto)]
 
 mod changing;
-mod choices;
+mod covering;
+mod equating;
+mod finding;
+mod gathering;
 mod goals;
 mod machine;
 mod phase;
 mod resolving;
+mod returning;
+mod selecting;
 mod starting;
 #[cfg(test)]
 mod tests;
+mod visiting;
 
 pub use machine::Machine;

@@ -1,13 +1,12 @@
-ghost use Rattle.std.specs.Prelude.{◌≡◌, ◌≤◌, ℕ, List, Some, IfOk, OnOk, OnErr, IsErr};
+ghost use Rattle.std.specs.Prelude.{◌≡◌, ◌≤◌, ℕ, List, reverse, Some, IfOk, OnOk, OnErr, IsErr};
 ghost use Rattle.le_terms.specs.Program.{IsProgram};
-ghost use Rattle.le_proofs.specs.Goals.{HasAtomsAlone};
 ghost use Rattle.le_machine.specs.declared.phase.Phase.TheVariants.{Told, Lost};
 ghost use Rattle.le_proofs.specs.declared.next.Next.TheVariants.{Answer};
-ghost use Rattle.le_machine.specs.State.{started, next_answer, told, lost, last_values, Selections, Stands, CanAdvance, Advances};
+ghost use Rattle.le_machine.specs.State.{started, next_answer, told, lost, last_values, Selections, Stands, CanAdvance, Advances, AdvancesFor};
 ghost use Rattle.le_terms.specs.Tree.{Tree};
 
-use crate::choices::{find, next_goal};
-use crate::goals::{Choice, Found};
+use crate::finding::find;
+use crate::goals::{Found, Stack, Turn};
 use crate::phase::Phase;
 use crate::starting::root;
 use le_proofs::Next;
@@ -25,7 +24,7 @@ pub struct Machine<'p> {
     given: u64,
     phase: Phase,
     left: u32,
-    choices: Vec<Choice>,
+    stack: Stack,
     terms: Vec<Term>,
 }
 
@@ -40,20 +39,17 @@ impl<'p> Model for Machine<'p> {
 
     ghost view = { λ m. record { program = m.program.now; budget = m.budget; given = m.given; phase = m.phase } };
 
-    ghost invariant = { λ m. IsMachine m.program.now m.budget m.given m.phase m.left m.choices.items m.terms.items };
+    ghost invariant = { λ m. IsMachine m.program.now m.budget m.given m.phase m.left m.stack m.terms.items };
 }
 
 impl<'p> Machine<'p> {
-    /// The search of a program with a budget of 1 to 1,000,000 selections. The program is well formed,
-    /// and each literal of it is an atom, since this version knows no others. The error is want of
-    /// memory.
+    /// The search of a well formed program with a budget of 1 to 1,000,000 selections.
     pub fn start(
         alloc: Global,
         program: &'p Program,
         budget: u32,
     ) -> Result<Machine<'p>, AllocError>
         requires program { IsProgram program.now }
-        requires atoms { HasAtomsAlone program.now }
         requires some { 1 ≤ budget }
         requires most { budget ≤ 1000000 }
         ensures { IfOk result (λ machine. machine ≡ started program.now budget) }
@@ -64,7 +60,10 @@ impl<'p> Machine<'p> {
             given: 0,
             phase: Phase::Fresh,
             left: budget,
-            choices: Vec::new(alloc),
+            stack: Stack {
+                goals: Vec::new(alloc),
+                searches: Vec::new(alloc),
+            },
             terms: Vec::new(alloc),
         })
     }
@@ -82,7 +81,7 @@ impl<'p> Machine<'p> {
             alloc,
             self.program,
             self.phase,
-            &mut self.choices,
+            &mut self.stack,
             &mut self.left,
         );
         match found {
@@ -123,29 +122,27 @@ impl<'p> Machine<'p> {
 }
 
 // What the search finds next: after an answer or at the start a leaf or the end, after an end that end,
-// and after want of memory want of memory.
+// and after it ran out of memory that again.
 fn advance(
     alloc: Global,
     program: &Program,
     phase: Phase,
-    choices: &mut Vec<Choice>,
+    stack: &mut Stack,
     left: &mut u32,
 ) -> Result<Found, AllocError>
     requires program { IsProgram program.now }
-    requires low { CanAdvance phase left.old choices.old.items }
-    ensures found { IfOk result (λ found. (budget given : ℕ) (terms : List Tree) → budget ≤ 1000000 → Stands phase program.now budget given left.old choices.old.items terms → Advances program.now budget given found left.new choices.new.items) }
+    requires ready { CanAdvance phase left.old stack.old }
+    ensures found { IfOk result (λ found. (budget given : ℕ) (terms : List Tree) → budget ≤ 1000000 → Stands phase program.now budget given left.old stack.old terms → Advances program.now budget given found left.new (reverse stack.new.goals.items) (reverse stack.new.searches.items)) }
     ensures fewer { left.new ≤ left.old }
+    ensures opens { IfOk result (λ found. AdvancesFor found left.new stack.new) }
     ensures for_good { phase ≡ Lost → IsErr result }
 {
     match phase {
         Phase::Fresh => {
             let goal = root(alloc, program)?;
-            find(alloc, program, choices, left, Some(goal))
+            find(alloc, program, stack, left, Turn::Visit(goal))
         }
-        Phase::Told(Next::Answer) => {
-            let goal = next_goal(alloc, program.clauses.as_slice(), *left, choices)?;
-            find(alloc, program, choices, left, goal)
-        }
+        Phase::Told(Next::Answer) => find(alloc, program, stack, left, Turn::Back),
         Phase::Told(next) => Ok(Found::End(next)),
         Phase::Lost => Err(AllocError),
     }

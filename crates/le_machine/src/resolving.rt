@@ -1,50 +1,33 @@
-ghost use Rattle.std.specs.Prelude.{◌≡◌, ◌+◌, ◌^◌, ◌<◌, length, drop, zip, option_map, IfOk};
+ghost use Rattle.std.specs.Prelude.{◌≡◌, ◌+◌, ◌^◌, ◌<◌, ◌≤◌, length, zip, option_map, IfOk, IfSome};
 ghost use Rattle.le_terms.specs.Variables.{all_occurrences};
 ghost use Rattle.le_terms.specs.Program.{IsClause};
-ghost use Rattle.le_proofs.specs.Goals.{terms_under, raised, head_solution, resolvent_by, resolvent};
+ghost use Rattle.le_proofs.specs.Goals.{terms_under, literals_under, raised, head_solution};
 ghost use Rattle.le_machine.specs.Changing.{CanRaise};
-ghost use Rattle.le_machine.specs.Choices.{goal_of};
+ghost use Rattle.le_machine.specs.Keeping.{goal_of, goal_with, AreComputable};
 
 use crate::changing::{Change, changed_terms, push_changed, raised_term};
 use crate::goals::Goal;
 use le_subst::{Subst, solve};
-use le_terms::{Atom, Clause, Form, Literal, Term};
+use le_terms::{Atom, Clause, Literal, Term};
 use std::alloc::{AllocError, Global};
 
-// The resolvent of a goal by a clause, or none where the head doesn't unify with the first literal.
+// The resolvent of a goal by a clause, where this is the atom at this place, or none where the head doesn't
+// unify with it.
 pub(crate) fn resolve(
     alloc: Global,
     goal: &Goal,
-    clause: &Clause,
-) -> Result<Option<Goal>, AllocError>
-    requires clause { IsClause clause.now }
-    requires fits { goal.now.next + 64 < 2 ^ 32 }
-    ensures { IfOk result (λ answer. option_map goal_of answer ≡ resolvent (goal_of goal.now) clause.now) }
-{
-    if goal.literals.is_empty() {
-        return Ok(None);
-    }
-    match &goal.literals[0].form {
-        Form::Pos(atom) => resolve_atom(alloc, goal, atom, clause),
-        _ => Ok(None),
-    }
-}
-
-// The same, where this is the atom of the first literal.
-fn resolve_atom(
-    alloc: Global,
-    goal: &Goal,
+    place: usize,
     atom: &Atom,
     clause: &Clause,
 ) -> Result<Option<Goal>, AllocError>
     requires clause { IsClause clause.now }
     requires fits { goal.now.next + 64 < 2 ^ 32 }
-    requires some { 0 < length goal.now.literals.items }
-    ensures { IfOk result (λ answer. option_map goal_of answer ≡ option_map (resolvent_by (goal_of goal.now) (drop 1 goal.now.literals.items) clause.now) (head_solution goal.now.next clause.now atom.now)) }
+    requires inside { place < length goal.now.literals.items }
+    ensures { IfOk result (λ answer. option_map goal_of answer ≡ option_map (goal_with (goal_of goal.now) place (goal.now.next + clause.now.vars) (literals_under (raised goal.now.next) clause.now.body)) (head_solution goal.now.next clause.now atom.now)) }
 {
     match unify_head(alloc, goal.next, clause, atom)? {
         None => Ok(None),
-        Some(subst) => Ok(Some(resolved(alloc, goal, clause, &subst)?)),
+        Some(subst) => Ok(Some(resolved(alloc, goal, place, clause, &subst)?)),
     }
 }
 
@@ -93,13 +76,18 @@ fn head_equations(
 }
 
 // The resolvent that a unifier gives.
-fn resolved(alloc: Global, goal: &Goal, clause: &Clause, subst: &Subst) -> Result<Goal, AllocError>
+fn resolved(
+    alloc: Global,
+    goal: &Goal,
+    place: usize,
+    clause: &Clause,
+    subst: &Subst,
+) -> Result<Goal, AllocError>
     requires clause { IsClause clause.now }
     requires fits { goal.now.next + 64 < 2 ^ 32 }
-    requires some { 0 < length goal.now.literals.items }
-    ensures { IfOk result (λ new. goal_of new ≡ resolvent_by (goal_of goal.now) (drop 1 goal.now.literals.items) clause.now subst.now) }
+    requires inside { place < length goal.now.literals.items }
+    ensures { IfOk result (λ new. goal_of new ≡ goal_with (goal_of goal.now) place (goal.now.next + clause.now.vars) (literals_under (raised goal.now.next) clause.now.body) subst.now) }
 {
-    let apply = Change::Apply(subst);
     let mut body = Vec::with_capacity(alloc, clause.body.as_slice().len())?;
     push_changed(
         alloc,
@@ -107,11 +95,28 @@ fn resolved(alloc: Global, goal: &Goal, clause: &Clause, subst: &Subst) -> Resul
         &Change::Raise(goal.next),
         clause.body.as_slice(),
     )?;
-    let mut literals = Vec::with_capacity(alloc, body.len() + goal.literals.len())?;
-    push_changed(alloc, &mut literals, &apply, &body)?;
-    push_changed(alloc, &mut literals, &apply, &goal.literals[1..])?;
+    replaced_literal(alloc, goal, place, goal.next + clause.vars, &body, subst)
+}
+
+// A goal with other literals in the place of one, and another next variable, under a unifier.
+pub(crate) fn replaced_literal(
+    alloc: Global,
+    goal: &Goal,
+    place: usize,
+    next: u32,
+    new: &[Literal],
+    subst: &Subst,
+) -> Result<Goal, AllocError>
+    requires inside { place < length goal.now.literals.items }
+    ensures { IfOk result (λ changed. goal_of changed ≡ goal_with (goal_of goal.now) place next new.now subst.now) }
+{
+    let apply = Change::Apply(subst);
+    let mut literals = Vec::new(alloc);
+    push_changed(alloc, &mut literals, &apply, &goal.literals[..place])?;
+    push_changed(alloc, &mut literals, &apply, new)?;
+    push_changed(alloc, &mut literals, &apply, &goal.literals[place + 1..])?;
     Ok(Goal {
-        next: goal.next + clause.vars,
+        next,
         literals,
         terms: changed_terms(alloc, &apply, &goal.terms)?,
     })

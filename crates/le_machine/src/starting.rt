@@ -1,6 +1,6 @@
 ghost use Rattle.std.specs.Prelude.{◌≡◌, IfOk};
 ghost use Rattle.le_proofs.specs.Goals.{root_of, asked_terms};
-ghost use Rattle.le_machine.specs.Choices.{goal_of};
+ghost use Rattle.le_machine.specs.Keeping.{goal_of};
 
 use crate::goals::Goal;
 use le_terms::{Asked, Program, Sym, Term};

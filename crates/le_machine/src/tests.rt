@@ -2,7 +2,7 @@ ghost use Rattle.std.specs.Prelude.{◌≡◌, ◌<◌, ◌≤◌, ◌^◌, get_
 ghost use Rattle.std.specs.List.{AllByRecursion};
 ghost use Rattle.le_terms.specs.Variables.{occurrences};
 ghost use Rattle.le_terms.specs.Program.{HasVariablesBelow, HasArity, IsLiteral, IsProgramClause, IsProgram, literals_terms, predefined_arities};
-ghost use Rattle.le_proofs.specs.Goals.{AreAtoms, HasAtomsAlone};
+ghost use Rattle.le_proofs.specs.Goals.{AreAtoms};
 ghost use Rattle.le_proofs.specs.declared.next.Next.TheVariants.{Answer};
 ghost use Rattle.le_machine.specs.declared.phase.Phase.TheVariants.{Told};
 
@@ -121,7 +121,6 @@ fn asked(alloc: Global, count: u32) -> Result<Vec<Asked>, Fail>
 fn program(alloc: Global, rows: &[&str], query: &str, count: u32) -> Result<Program, Fail>
     requires { count ≤ 4 }
     ensures program { IfOk result IsProgram }
-    ensures atoms { IfOk result HasAtomsAlone }
 {
     if rows.len() > 30 {
         return Err(Fail::from("too many clauses"));
@@ -163,7 +162,6 @@ fn note_values(alloc: Global, machine: &Machine<'_>, text: &mut Vec<u8>) -> Resu
 // What a search answers to four calls of `next`, each with its selections.
 fn answers(alloc: Global, program: &Program, budget: u32) -> Result<Vec<u8>, Fail>
     requires program { IsProgram program.now }
-    requires atoms { HasAtomsAlone program.now }
     requires some { 0 < budget }
     requires most { budget ≤ 1000000 }
 {

@@ -12,12 +12,12 @@ use Rattle.le_templates.specs.declared.part.Part.{Part}
 use Rattle.le_templates.specs.declared.part.Part.TheVariants.{Word, Slot}
 use Rattle.le_templates.specs.declared.part.Template.{Template}
 use Rattle.le_templates.specs.Table.{template, table_of, in_use}
-use Rattle.le_scope.specs.Phrases.{is_phrase, phrase_form, is_name}
+use Rattle.le_scope.specs.Phrases.{is_phrase, phrase_form, simple_form, is_name}
 use Rattle.le_match.specs.declared.readings.Reading.{Reading}
 use Rattle.le_match.specs.Readings.{count_from, phrase_lengths, cuts, until_star, marked_cuts, is_marked, ways, readings_by, readings_from, readings_of, parts_at, words_of, most_words, best_readings, first_two, best_of}
 use Rattle.le_match.specs.Shares.{edge, Fits, IsRead, IsReadBy, Share, word, phrase, shares}
 use Rattle.le_match.specs.declared.sharing.Place.{Place}
-use Rattle.le_match.specs.Walks.{share_of}
+use Rattle.le_match.specs.Walks.{share_of, place_size, total_size}
 use Rattle.le_match.proofs.CutLemmas.{next, rest_of, span_length, front_of, length_bounds}
 use Rattle.le_match.proofs.BestLemmas.{readings_at}
 
@@ -55,7 +55,7 @@ cuts_fit l (Slot s ∷ ps) ts =
 
 -- no phrase is empty
 pub none_empty : (l : Layout) → is_phrase l [] ≡ false
-unfolding phrase_form is_name
+unfolding phrase_form simple_form is_name
 none_empty l = refl
 
 pub marked_fit : (l : Layout) (ps : List Part) (ts : List Token) → All (λ ks. Fits l 1 ps ts ks) (marked_cuts l ps ts)
@@ -191,3 +191,8 @@ pub shared_more : (l : Layout) (found more : List Place) (x : Place) (tail all :
 shared_more l found more x tail all e f =
     ap (λ s. map (share_of l) s ++ tail) e ∙ ap (λ s. s ++ tail) (map-append (share_of l) found (x ∷ []))
     ∙ append_assoc (map (share_of l) found) (share_of l x ∷ []) tail ∙ ap (λ s. map (share_of l) found ++ s) (sym f)
+
+-- the tokens of one place more
+pub total_size_push : (ps : List Place) (p : Place) → total_size (ps ++ p ∷ []) ≡ total_size ps + place_size p
+total_size_push [] p = omega arith
+total_size_push (q ∷ ps) p = let h = total_size_push ps p in omega (arith, h)

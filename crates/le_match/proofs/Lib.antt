@@ -1,9 +1,16 @@
+pub mod CountLemmas
 pub mod CutLemmas
 pub mod FitLemmas
 pub mod MarkedLemmas
+pub mod NeedsLemmas
 pub mod BestLemmas
 pub mod TermLemmas
 pub mod FitsLemmas
 pub mod ReadLemmas
 pub mod ShownLemmas
 pub mod WholeLemmas
+pub mod OrderLemmas
+pub mod MarkedWays
+pub mod ListLemmas
+pub mod StarLemmas
+pub mod ListTerms

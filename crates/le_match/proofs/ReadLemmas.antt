@@ -4,12 +4,12 @@ use Rattle.std.proofs.lemmas.List.{take-take, length-take}
 use Rattle.le_base.specs.declared.stop.Refusal.{Refusal}
 use Rattle.le_base.specs.declared.stop.Stop.{Stop}
 use Rattle.le_base.specs.declared.stop.Stop.TheVariants.{Refused, Memory}
-use Rattle.le_base.specs.Stop.{Gives}
 use Rattle.le_layout.specs.declared.token.Token.{Token}
 use Rattle.le_layout.specs.declared.layout.Layout.{Layout}
 use Rattle.le_templates.specs.declared.part.Template.{Template}
 use Rattle.le_terms.specs.Tree.{Tree}
 use Rattle.le_scope.specs.Scopes.{ScopeState, first_names}
+use Rattle.le_scope.proofs.AskedLemmas.{first_twice}
 use Rattle.le_match.specs.Shares.{Share, word, phrase}
 use Rattle.le_match.specs.declared.readings.BestReading.{BestReading}
 use Rattle.le_match.specs.Readings.{best_of}
@@ -26,9 +26,9 @@ front_more a b c h g = sym (take-take (length a) (length b) c (front_short a b h
 
 pub scope_more : (a b c : ScopeState) → IsLongerScope a b → IsLongerScope b c → IsLongerScope a c
 scope_more a b c h g =
-    let short = front_short a.names b.names (ap (λ s. s.names) h) in
-    let with_names : List (List ℕ) → ScopeState = λ ns. record { limit = c.limit; names = ns } in
-    ap with_names (sym (take-take (length a.names) (length b.names) c.names short)) ∙ ap (λ s. first_names s (length a.names)) g ∙ h
+    let same : take (length a.names) b.names ≡ take (length a.names) a.names = ap (λ s. s.names) h.front in
+    let short : length a.names ≤ length b.names = let e = ap length same in let f = length-take (length a.names) a.names in let k = length-take (length a.names) b.names in omega (arith, e, f, k) in
+    record { front = sym (first_twice c (length a.names) (length b.names) short) ∙ ap (λ s. first_names s (length a.names)) g.front ∙ first_twice b (length a.names) (length b.names) short ∙ h.front }
 
 -- ---- the terms
 
@@ -71,10 +71,15 @@ terms_refused us names scope query l all rest ts r e h =
     ap (terms_of us names scope query l) e
     ∙ ap (λ r. elim r as (λ _. Result (Found (List Tree)) Refusal) [ Ok f ↦ onto_terms f.value (terms_of us f.names f.scope query l rest) | Err refusal ↦ Err refusal ]) h
 
--- a refusal handed on
-pub gives_err : {X Y Z W : Type 0} (u : X → Y) (v : Z → W) (s : Stop) (a : Result Y Refusal) (b : Result W Refusal) → ((r : Refusal) → a ≡ Err r → b ≡ Err r) → Gives u (Err s) a → Gives v (Err s) b
-gives_err u v (Refused r) a b f h = f r h
-gives_err u v Memory a b f h = tt
+-- a stop is the refusal that a definition gives, or out of memory
+abbrev pub Halts : {Y : Type 0} → Stop → Result Y Refusal → Type 0
+Halts (Refused e) given = given ≡ Err e
+Halts Memory given = Unit {0}
+
+-- a stop handed on: where the callee's definition refuses, so does the caller's
+pub handed_on : {Y Z : Type 0} (given : Result Y Refusal) (all : Result Z Refusal) (stop : Stop) → Halts stop given → ((e : Refusal) → given ≡ Err e → all ≡ Err e) → Halts stop all
+handed_on given all (Refused e) h step = step e h
+handed_on given all Memory h step = tt
 
 pub atom_is : (us : List Template) (names : List (List ℕ)) (scope : ScopeState) (query : Bool) (l : Layout) (ts : List Token) (b : BestReading) → best_of us l ts ≡ b → atom_of us names scope query l ts ≡ by_best us names scope query l ts b
 unfolding atom_of

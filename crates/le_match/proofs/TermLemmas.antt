@@ -1,7 +1,7 @@
 -- The terms of phrases.
 use Rattle.std.proofs.Common.{◌≡◌, ℕ, ◌+◌, ◌-◌, ◌<◌, ◌≤◌, Bool, true, false, cond, Option, Some, None, Result, Ok, Err, List, ◌++◌, codes, length, drop, get_or, slice_range, sym, refl, ap, ◌∙◌, subst, arith}
 use Rattle.std.proofs.lemmas.List.{get_or-take, get_or-drop}
-use Rattle.le_base.specs.declared.code.Code.TheVariants.{Dangling, NoReading}
+use Rattle.le_base.specs.declared.code.Code.TheVariants.{Dangling}
 use Rattle.le_base.specs.declared.stop.Refusal.{Refusal}
 use Rattle.le_base.specs.declared.stop.Stop.{Stop}
 use Rattle.le_base.specs.declared.stop.Stop.TheVariants.{Refused}
@@ -16,10 +16,11 @@ use Rattle.le_terms.specs.Tree.{Tree, constant, variable}
 use Rattle.le_terms.specs.Names.{number_of_name, entered}
 use Rattle.le_scope.specs.declared.phrase.PhraseForm.{PhraseForm}
 use Rattle.le_scope.specs.declared.phrase.PhraseForm.TheVariants as form
-use Rattle.le_scope.specs.declared.scope.Intro.TheVariants as intro
-use Rattle.le_scope.specs.Phrases.{phrase_form}
-use Rattle.le_scope.specs.Scopes.{ScopeState, place_of, introduction, introduced}
-use Rattle.le_match.specs.Terms.{Found, first_of, last_of, constant_found, by_introduction, introducing, by_place, by_form, term_of}
+use Rattle.le_scope.specs.declared.scope.Intro.{Intro}
+use Rattle.std.specs.Option.{option_or, is_some}
+use Rattle.le_scope.specs.Phrases.{simple_form, is_simple_phrase, list_form, phrase_form}
+use Rattle.le_scope.specs.Scopes.{ScopeState, place_of, introduction, introduced, introduced_by_which}
+use Rattle.le_match.specs.Terms.{Found, first_of, last_of, constant_found, by_introduction, introducing, asking, by_place, by_simple_form, by_form, term_of}
 use Rattle.le_match.proofs.CutLemmas.{next, rest_of, span_length}
 
 -- ---- the tokens of a phrase
@@ -61,10 +62,13 @@ pub constant_is : (names more : List (List ℕ)) (scope : ScopeState) (name same
 constant_is names more scope name same t e f g =
     ap (constant_found names scope) (sym e) ∙ found_is t (constant (number_of_name names name)) more (entered names name) scope scope f g refl
 
-pub new_is : (names : List (List ℕ)) (scope after : ScopeState) (first : Token) (name same : List ℕ) (n : ℕ) (t : Tree) → name ≡ same → introduction scope name ≡ intro.New n → after ≡ introduced scope name → t ≡ variable n → introducing names scope first same ≡ Ok (record { value = t; names = names; scope = after })
-new_is names scope after first name same n t e i s f =
-    ap (introducing names scope first) (sym e) ∙ ap (by_introduction names (introduced scope name) first) i
-    ∙ found_is t (variable n) names names after (introduced scope name) f refl s
+pub introducing_is : (names : List (List ℕ)) (scope after : ScopeState) (first : Token) (name same : List ℕ) (i : Intro) → name ≡ same → i ≡ introduction scope name → after ≡ introduced scope name → introducing names scope first same ≡ by_introduction names after first i
+introducing_is names scope after first name same i e a s =
+    ap (introducing names scope first) (sym e) ∙ ap (λ z. by_introduction names z first (introduction scope name)) (sym s) ∙ ap (by_introduction names after first) (sym a)
+
+pub asking_is : (names : List (List ℕ)) (scope after : ScopeState) (first : Token) (name same : List ℕ) (i : Intro) → name ≡ same → i ≡ introduction scope name → after ≡ introduced_by_which scope name → asking names scope first same ≡ by_introduction names after first i
+asking_is names scope after first name same i e a s =
+    ap (asking names scope first) (sym e) ∙ ap (λ z. by_introduction names z first (introduction scope name)) (sym s) ∙ ap (by_introduction names after first) (sym a)
 
 pub there_is : (us : List Template) (names : List (List ℕ)) (scope : ScopeState) (first : Token) (last name same : List ℕ) (n : ℕ) (t : Tree) → name ≡ same → place_of scope name ≡ Some n → t ≡ variable n → by_place us names scope first last same (place_of scope same) ≡ Ok (record { value = t; names = names; scope = scope })
 there_is us names scope first last name same n t e i f =
@@ -82,17 +86,31 @@ the_is us names more scope first last name same text t e i h is f g =
     ∙ ap (λ b. cond b (Err (refusal_at Dangling first.line first.column)) (constant_found names scope (codes "the " ++ name))) h
     ∙ constant_is names more scope text (codes "the " ++ name) t is f g
 
+pub form_is : (us : List Template) (names : List (List ℕ)) (scope : ScopeState) (query : Bool) (l : Layout) (ts : List Token) (f given : PhraseForm) → given ≡ f → by_simple_form us names scope query l ts (Some given) ≡ by_simple_form us names scope query l ts (Some f)
+form_is us names scope query l ts f given e = ap (λ g. by_simple_form us names scope query l ts (Some g)) e
+
 pub by_form_is : (us : List Template) (names : List (List ℕ)) (scope : ScopeState) (query : Bool) (l : Layout) (ts : List Token) (f : Option PhraseForm) → phrase_form l ts ≡ f → term_of us names scope query l ts ≡ by_form us names scope query l ts f
 unfolding term_of
 by_form_is us names scope query l ts f e = ap (by_form us names scope query l ts) e
 
--- a form that isn't read yet
-pub other_form : (us : List Template) (names : List (List ℕ)) (scope : ScopeState) (query : Bool) (l : Layout) (ts : List Token) (f : PhraseForm) → (f ≡ form.Quote → ⊥) → (f ≡ form.A → ⊥) → (f ≡ form.The → ⊥) → (f ≡ form.Which → ⊥) → (f ≡ form.Constant → ⊥) → by_form us names scope query l ts (Some f) ≡ Err (refusal_at NoReading (first_of ts).line (first_of ts).column)
-other_form us names scope query l ts (form.Number z) a b c d e = refl
-other_form us names scope query l ts (form.Day z) a b c d e = refl
-other_form us names scope query l ts form.Quote a b c d e = absurd (a refl)
-other_form us names scope query l ts form.List a b c d e = refl
-other_form us names scope query l ts form.A a b c d e = absurd (b refl)
-other_form us names scope query l ts form.The a b c d e = absurd (c refl)
-other_form us names scope query l ts form.Which a b c d e = absurd (d refl)
-other_form us names scope query l ts form.Constant a b c d e = absurd (e refl)
+-- a phrase that isn't a list
+pub other_form : (us : List Template) (names : List (List ℕ)) (scope : ScopeState) (query : Bool) (l : Layout) (ts : List Token) (f : PhraseForm) → (f ≡ form.List → ⊥) → by_form us names scope query l ts (Some f) ≡ by_simple_form us names scope query l ts (Some f)
+other_form us names scope query l ts (form.Number z) m = refl
+other_form us names scope query l ts (form.Day z) m = refl
+other_form us names scope query l ts form.Quote m = refl
+other_form us names scope query l ts form.List m = absurd (m refl)
+other_form us names scope query l ts form.A m = refl
+other_form us names scope query l ts form.The m = refl
+other_form us names scope query l ts form.Which m = refl
+other_form us names scope query l ts form.Constant m = refl
+
+-- ---- phrases without brackets
+
+-- the form of a phrase without brackets is that of the phrase
+pub simple_is : (l : Layout) (ts : List Token) (o : Option PhraseForm) → is_simple_phrase l ts ≡ true → phrase_form l ts ≡ o → simple_form l ts ≡ o
+unfolding phrase_form
+simple_is l ts o h e = first (simple_form l ts) h ∙ e
+  where
+    first : (s : Option PhraseForm) → is_some s ≡ true → s ≡ option_or s (list_form l ts)
+    first (Some f) h = refl
+    first None h = absurd (cc)

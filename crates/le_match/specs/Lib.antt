@@ -1,3 +1,6 @@
+pub mod Counts
+pub mod Lists
+pub mod Order
 pub mod Readings
 pub mod Shares
 pub mod Shown

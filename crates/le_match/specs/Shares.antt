@@ -1,8 +1,9 @@
 -- How a template's words and slots lie in the tokens of a sentence: this project's profile.
-use Rattle.std.specs.Prelude.{◌≡◌, ℕ, ◌+◌, ◌<◌, ◌≤◌, true, if◌then◌else◌, List, [], ◌∷◌, length, take, drop}
+use Rattle.std.specs.Prelude.{◌≡◌, ℕ, ◌+◌, ◌<◌, ◌≤◌, true, if◌then◌else◌, List, [], ◌∷◌, length, take, drop, slice_index_or}
 use Rattle.le_layout.specs.declared.token.Token.{Token}
 use Rattle.le_layout.specs.declared.layout.Layout.{Layout}
-use Rattle.le_layout.specs.Words.{is_this_word}
+use Rattle.le_layout.specs.Layout.{no_token}
+use Rattle.le_layout.specs.Words.{is_this_word, is_star}
 use Rattle.le_templates.specs.declared.part.Part.{Part}
 use Rattle.le_templates.specs.declared.part.Part.TheVariants.{Word, Slot}
 use Rattle.le_templates.specs.declared.part.Template.{Template}
@@ -43,6 +44,18 @@ Fits layout n (Word w ∷ parts) (t ∷ ts) lengths = (is_this_word layout w t �
 Fits layout n (Slot s ∷ parts) ts [] = ⊥
 Fits layout n (Slot s ∷ parts) ts (k ∷ lengths) =
     (0 < k) × (k + (n + n) ≤ length ts) × (is_phrase layout (take k (drop n ts)) ≡ true) × Fits layout n parts (drop (k + (n + n)) ts) lengths
+
+-- The tokens of a marked sentence are the template's words and slots in order, where slots have these lengths: each word is the template's, ASCII case ignored, and each slot is a phrase that stands between two asterisks.
+abbrev pub FitsMarked : Layout → List Part → List Token → List ℕ → Type 0
+FitsMarked layout [] [] [] = Unit {0}
+FitsMarked layout [] [] (k ∷ lengths) = ⊥
+FitsMarked layout [] (t ∷ ts) lengths = ⊥
+FitsMarked layout (Word w ∷ parts) [] lengths = ⊥
+FitsMarked layout (Word w ∷ parts) (t ∷ ts) lengths = (is_this_word layout w t ≡ true) × FitsMarked layout parts ts lengths
+FitsMarked layout (Slot s ∷ parts) [] lengths = ⊥
+FitsMarked layout (Slot s ∷ parts) (t ∷ ts) [] = ⊥
+FitsMarked layout (Slot s ∷ parts) (t ∷ ts) (k ∷ lengths) =
+    (is_star t.kind ≡ true) × (k < length ts) × (is_phrase layout (take k ts) ≡ true) × (is_star (slice_index_or ts k no_token).kind ≡ true) × FitsMarked layout parts (drop (k + 1) ts) lengths
 
 -- the tokens are read so by the template
 abbrev pub IsRead : List Template → Layout → List Token → Reading → Type 0

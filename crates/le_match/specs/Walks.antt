@@ -1,5 +1,5 @@
 -- What the walks over a sentence's tokens find; callers don't need it.
-use Rattle.std.specs.Prelude.{◌≡◌, ℕ, ◌+◌, ◌<◌, ◌≤◌, nat_lt, Bool, true, false, ◌||◌, if◌then◌else◌, Option, Some, None, List, [], ◌∷◌, ◌++◌, length, map, take, drop}
+use Rattle.std.specs.Prelude.{◌≡◌, ℕ, ◌+◌, ◌-◌, ◌<◌, ◌≤◌, nat_lt, Bool, true, false, ◌||◌, if◌then◌else◌, Option, Some, None, List, [], ◌∷◌, ◌++◌, length, map, take, drop}
 use Rattle.le_layout.specs.declared.token.Token.{Token}
 use Rattle.le_layout.specs.declared.layout.Layout.{Layout}
 use Rattle.le_layout.specs.Words.{is_this_word}
@@ -19,17 +19,13 @@ use Rattle.le_match.specs.declared.choosing.Sentence.{Sentence}
 use Rattle.le_match.specs.declared.choosing.Found.{Found}
 use Rattle.le_match.specs.declared.marked.Taken.{Taken}
 use Rattle.le_match.specs.declared.marked.Taken.TheVariants as taken
-use Rattle.le_match.specs.Readings.{phrase_lengths, cuts, marked_length, marked_cuts, is_marked, readings_by, readings_from, most_words, best_readings}
-
--- the lengths of phrases at each token
-abbrev pub phrases_from : Layout → List Token → List (List ℕ)
-phrases_from layout [] = []
-phrases_from layout (t ∷ ts) = phrase_lengths layout (t ∷ ts) ∷ phrases_from layout ts
-
--- the first two ways to share out the tokens from each place on, the end included
-abbrev pub row_of : Layout → List Part → List Token → List (List (List ℕ))
-row_of layout parts [] = take 2 (cuts layout parts []) ∷ []
-row_of layout parts (t ∷ ts) = take 2 (cuts layout parts (t ∷ ts)) ∷ row_of layout parts ts
+use Rattle.le_scope.specs.Lengths.{lengths_from}
+use Rattle.le_scope.specs.declared.parts.ListPart.{ListPart}
+use Rattle.le_scope.specs.declared.parts.ListPart.TheVariants.{Cell, End, Item}
+use Rattle.le_terms.specs.Tree.{IsTerm}
+use Rattle.le_terms.specs.declared.term.Sym.{Sym}
+use Rattle.le_terms.specs.declared.term.Sym.TheVariants.{Nil, Cons}
+use Rattle.le_match.specs.Readings.{marked_length, marked_cuts, is_marked, readings_by, readings_from, most_words, best_readings}
 
 -- what stands behind the first token that is this word
 abbrev pub behind_word : Layout → List ℕ → List Token → Option (List Token)
@@ -78,7 +74,7 @@ marked_behind layout parts ts (taken.Slot n) = map (λ ns. n ∷ ns) (marked_cut
 pub record IsSentence (layout : Layout) (s : Sentence) : Type 0 where
   pub within : IsSpan layout s.tokens
   pub marked : s.marked ≡ is_marked (tokens_of layout s.tokens)
-  pub phrases : s.phrases.items ≡ phrases_from layout (tokens_of layout s.tokens)
+  pub phrases : s.phrases.items ≡ lengths_from layout (tokens_of layout s.tokens)
 
 -- the readings by the templates with numbers below this one
 abbrev pub readings_before : List Template → Layout → List Token → ℕ → List Reading
@@ -104,9 +100,14 @@ pub record IsLonger (before after : List (List ℕ)) : Type 0 where
   pub front : take (length before) after ≡ before
   pub few : length after ≤ length before + 1
 
--- a scope with names behind those before
-abbrev pub IsLongerScope : ScopeState → ScopeState → Type 0
-IsLongerScope before after = first_names after (length before.names) ≡ before
+-- names with at most so many more after them
+pub record IsLongerBy (most : ℕ) (before after : List (List ℕ)) : Type 0 where
+  pub front : take (length before) after ≡ before
+  pub few : length after ≤ length before + most
+
+-- a scope with names after those before, of which the same is noted
+pub record IsLongerScope (before after : ScopeState) : Type 0 where
+  pub front : first_names after (length before.names) ≡ first_names before (length before.names)
 
 -- a part's share as it is seen by contracts
 abbrev pub share_of : Layout → Place → Share
@@ -117,6 +118,27 @@ share_of layout (place.Slot span) = phrase (tokens_of layout span)
 abbrev pub IsPlace : Layout → Place → Type 0
 IsPlace layout (place.Word at) = at < length layout.tokens
 IsPlace layout (place.Slot span) = IsSomeSpan layout span
+
+-- how many tokens a part's share has
+abbrev pub place_size : Place → ℕ
+place_size (place.Word at) = 1
+place_size (place.Slot span) = span.to - span.from
+
+-- how many tokens the shares of some parts have
+abbrev pub total_size : List Place → ℕ
+total_size [] = 0
+total_size (p ∷ ps) = place_size p + total_size ps
+
+-- the symbols of a part of a list: a cell, the empty list, or a term
+abbrev pub IsPartSpelled : ListPart → List Sym → Type 0
+IsPartSpelled Cell symbols = symbols ≡ Cons ∷ []
+IsPartSpelled End symbols = symbols ≡ Nil ∷ []
+IsPartSpelled (Item span) symbols = IsTerm symbols
+
+-- symbols are those of some parts of a list, one part after another
+abbrev pub AreSpelled : List ListPart → List Sym → Type 0
+AreSpelled [] symbols = symbols ≡ []
+AreSpelled (p ∷ ps) symbols = (front : List Sym) × (back : List Sym) × (symbols ≡ front ++ back) × IsPartSpelled p front × AreSpelled ps back
 
 -- whether no space stands behind pieces
 abbrev pub glued_after : Bool → List Piece → Bool

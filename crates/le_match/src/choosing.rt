@@ -3,16 +3,19 @@ ghost use Rattle.le_layout.specs.Layout.{IsLayout};
 ghost use Rattle.le_layout.specs.Words.{IsSpan, tokens_of};
 ghost use Rattle.le_templates.specs.Form.{word_count as word_count_of, is_word_part};
 ghost use Rattle.le_templates.specs.Table.{table_of};
+ghost use Rattle.std.specs.List.{All};
+ghost use Rattle.le_templates.specs.Needs.{IsAscending, AreLeft};
 ghost use Rattle.le_match.specs.Readings.{best_of, IsInTable, is_marked as is_marked_sentence, ways as ways_of, readings_by, first_two};
 ghost use Rattle.le_match.specs.Shares.{IsReadBy};
 ghost use Rattle.le_match.specs.Walks.{IsSentence, IsBestOf, readings_before, most_with, readings_with};
 
-use crate::cuts::{Ways, cuts, phrases};
+use crate::cuts::{Ways, cuts};
 use crate::fitting::may_fit;
 use crate::marked::{is_marked, marked_cut};
 use crate::{BestReading, Lengths, Reading};
 use le_base::Span;
 use le_layout::Layout;
+use le_scope::{PhraseLengths, phrase_lengths};
 use le_templates::{Part, Templates};
 use std::alloc::{AllocError, Global};
 
@@ -21,8 +24,8 @@ use std::alloc::{AllocError, Global};
 /// and a list of slot lengths, such that the sentence's tokens are the template's words (ASCII case
 /// ignored) and slots in order, and the tokens of each slot are a phrase. Best are those whose template
 /// has most words outside slots; they are ordered by predicate, then by the lengths in dictionary order.
-/// In a sentence with an asterisk the parts between asterisks are its slots. The layout is a sound one and
-/// has the tokens. The error is want of memory.
+/// In a sentence with an asterisk the parts between asterisks are its slots. The layout is a valid one and
+/// has the tokens.
 pub fn best(
     alloc: Global,
     layout: &Layout,
@@ -38,15 +41,10 @@ pub fn best(
     let sentence = Sentence {
         tokens,
         marked: is_marked(layout, tokens),
-        phrases: phrases(alloc, layout, tokens)?,
+        phrases: phrase_lengths(alloc, layout, tokens)?,
     };
-    let mut found = Found {
-        most: 0,
-        readings: Vec::new(alloc),
-    };
-    for pred in 0..20 + templates.users() {
-        consider(alloc, layout, templates, &sentence, pred, &mut found)?;
-    }
+    let candidates = templates.candidates(alloc, layout, tokens)?;
+    let found = best_among(alloc, layout, templates, &sentence, &candidates)?;
     Ok(one_or_two(found.readings))
 }
 
@@ -56,7 +54,7 @@ pub fn best(
 pub(crate) struct Sentence {
     tokens: Span,
     marked: bool,
-    phrases: Vec<Lengths>,
+    phrases: Vec<PhraseLengths>,
 }
 
 // The best readings so far, of which at most two are kept, and how many words their template has.
@@ -64,6 +62,37 @@ pub(crate) struct Sentence {
 pub(crate) struct Found {
     most: usize,
     readings: Vec<Reading>,
+}
+
+// The best readings, where each template that isn't among the candidates lacks a word.
+fn best_among(
+    alloc: Global,
+    layout: &Layout,
+    templates: &Templates,
+    sentence: &Sentence,
+    candidates: &[u32],
+) -> Result<Found, AllocError>
+    requires layout { IsLayout layout.now }
+    requires sentence { IsSentence layout.now sentence.now }
+    requires order { IsAscending candidates.now }
+    requires known { All (λ pred. pred < 20 + length templates.now) candidates.now }
+    requires complete { AreLeft templates.now layout.now (tokens_of layout.now sentence.now.tokens) candidates.now 0 0 }
+    ensures { IfOk result (λ found. IsBestOf templates.now (readings_before templates.now layout.now (tokens_of layout.now sentence.now.tokens) (20 + length templates.now)) found) }
+{
+    let mut found = Found {
+        most: 0,
+        readings: Vec::new(alloc),
+    };
+    let count = 20 + templates.users();
+    let mut next = 0;
+    for i in 0..candidates.len() {
+        let pred = candidates[i];
+        if next <= pred && pred < count {
+            consider(alloc, layout, templates, sentence, pred, &mut found)?;
+            next = pred + 1;
+        }
+    }
+    Ok(found)
 }
 
 // Adds the readings by one more template, where they are among the best.

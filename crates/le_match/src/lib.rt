@@ -5,6 +5,7 @@ mod choosing;
 mod cuts;
 mod fitting;
 mod laws;
+mod lists;
 mod marked;
 mod phrases;
 mod readings;
@@ -15,7 +16,9 @@ mod shown;
 mod tests;
 
 pub use choosing::best;
-pub use laws::every_way;
+pub use laws::{
+    every_reading, every_term, every_way, no_reading_without_a_word, one_marked_reading,
+};
 pub use phrases::term;
 pub use readings::{BestReading, Lengths, Reading};
 pub use sentences::read;

@@ -1,15 +1,17 @@
-ghost use Rattle.std.specs.Prelude.{◌≡◌, ℕ, ◌+◌, ◌-◌, ◌^◌, ◌<◌, List, drop, length, IfOk, OnOk, OnErr};
+ghost use Rattle.std.specs.Prelude.{◌≡◌, ℕ, ◌+◌, ◌-◌, ◌^◌, ◌<◌, Some, true, List, drop, length, IfOk, OnOk, OnErr};
 ghost use Rattle.le_base.specs.declared.stop.Stop.TheVariants.{Refused};
 ghost use Rattle.le_base.specs.Stop.{Gives, refusal_at};
 ghost use Rattle.le_layout.specs.Layout.{IsLayout};
 ghost use Rattle.le_layout.specs.Words.{IsSomeSpan, tokens_of, text_of};
-ghost use Rattle.le_terms.specs.Tree.{constant};
+ghost use Rattle.le_terms.specs.Tree.{constant, number, date, IsNumber, IsDay};
 ghost use Rattle.le_terms.specs.Names.{number_of_name, entered};
-ghost use Rattle.le_scope.specs.Phrases.{phrase_name as name_of};
+ghost use Rattle.le_scope.specs.Phrases.{IsFormInRange, is_simple_phrase, phrase_name as name_of};
 ghost use Rattle.le_scope.specs.Scopes.{ScopeState, place_of};
-ghost use Rattle.le_match.specs.Terms.{term_of, first_of, last_of, constant_found, introducing, by_place};
-ghost use Rattle.le_match.specs.Walks.{IsLonger, IsLongerScope};
+ghost use Rattle.le_scope.specs.declared.scope.Intro.{Intro};
+ghost use Rattle.le_match.specs.Terms.{term_of, simple_term as simple_term_of, by_simple_form, first_of, last_of, constant_found, introducing, asking, by_introduction, by_place};
+ghost use Rattle.le_match.specs.Walks.{IsLonger, IsLongerBy, IsLongerScope};
 
+use crate::lists::list_term;
 use le_base::{Code, Refusal, Span, Stop, Text};
 use le_layout::Layout;
 use le_scope::{Intro, PhraseForm, Scope, phrase_name, shape};
@@ -18,14 +20,17 @@ use le_terms::{Names, Sym, Term};
 use std::alloc::{AllocError, Global};
 
 /// The term of a phrase of at least one token, in the scope of a rule, a fact or a query. A quoted text is
-/// the constant of its content, and a constant's name is its words joined by one space. `a` or `an` and a
-/// name introduce a variable, and so does `which` in a query. `the` and a name are the variable where the
-/// name was introduced, else the constant of `the ` and the name. Names are compared with ASCII case
-/// ignored. Refused at the first token: with `NoReading` exactly where the tokens are no phrase, with
-/// `Dangling` where `the` stands before a name that wasn't introduced and whose last word is the last word
-/// of a slot of the user's templates, with `WhichHere` where `which` stands outside a query, with `Again`
-/// where an introduced name is there already, and else with `TooMany` where the scope is full. The other
-/// error is want of memory. After both the names and the scope are as before. The layout is a sound one
+/// the constant of its content, a number or a date is its value, and a constant's name is its words joined
+/// by one space. `a` or `an` and a name introduce a variable, and so does `which` in a query, whose number
+/// the scope notes. `the` and a name are the variable where the name was introduced, else the constant of
+/// `the ` and the name. Names are compared with ASCII case ignored. A list's term is made of those of its
+/// phrases, which are found from left to right: `[]` is the empty list, `[p, q]` the cell of p and of the
+/// cell of q and the empty list, and `[p | r]` the cell of p and r. Refused with `NoReading` at the first
+/// token exactly where the tokens are no phrase, and else at the first token of the first phrase that isn't
+/// a list and that is refused: with `Dangling` where `the` stands before a name that wasn't introduced and
+/// whose last word is the last word of a slot of the user's templates, with `WhichHere` where `which`
+/// stands outside a query, with `Again` where an introduced name is there already, and else with `TooMany`
+/// where the scope is full. After an error the names and the scope are as before. The layout is a valid one
 /// and has the tokens, and there are fewer than 2^31 names.
 pub fn term(
     alloc: Global,
@@ -53,7 +58,7 @@ pub fn term(
     found
 }
 
-// The term of a phrase. After a refusal and want of memory names may have come, behind those before.
+// The term of a phrase. After an error names may have come, after those before.
 pub(crate) fn phrase_term(
     alloc: Global,
     layout: &Layout,
@@ -65,27 +70,78 @@ pub(crate) fn phrase_term(
 ) -> Result<Term, Stop>
     requires layout { IsLayout layout.now }
     requires tokens { IsSomeSpan layout.now tokens }
-    requires few { length names.old < 2 ^ 32 - 1 }
+    requires few { length names.old + (tokens.to - tokens.from) < 2 ^ 32 - 1 }
     ensures exact { Gives (λ term. record { value = term; names = names.new; scope = scope.new }) result (term_of templates.now names.old scope.old query layout.now (tokens_of layout.now tokens)) }
-    ensures names { IsLonger names.old names.new }
+    ensures names { IsLongerBy (tokens.to - tokens.from) names.old names.new }
     ensures scope { IsLongerScope scope.old scope.new }
 {
     let Some(form) = shape(alloc, layout, tokens)? else {
         return Err(refused(alloc, layout, Code::NoReading, tokens));
     };
     match form {
+        PhraseForm::List => list_term(alloc, layout, templates, names, scope, query, tokens),
+        _ => simple_term(alloc, layout, templates, names, scope, query, tokens, form),
+    }
+}
+
+// The term of a phrase without brackets that stands in a list.
+pub(crate) fn item_term(
+    alloc: Global,
+    layout: &Layout,
+    templates: &Templates,
+    names: &mut Names,
+    scope: &mut Scope,
+    query: bool,
+    tokens: Span,
+) -> Result<Term, Stop>
+    requires layout { IsLayout layout.now }
+    requires tokens { IsSomeSpan layout.now tokens }
+    requires simple { is_simple_phrase layout.now (tokens_of layout.now tokens) ≡ true }
+    requires few { length names.old < 2 ^ 32 - 1 }
+    ensures exact { Gives (λ term. record { value = term; names = names.new; scope = scope.new }) result (simple_term_of templates.now names.old scope.old query layout.now (tokens_of layout.now tokens)) }
+    ensures names { IsLonger names.old names.new }
+    ensures scope { IsLongerScope scope.old scope.new }
+{
+    let Some(form) = shape(alloc, layout, tokens)? else {
+        return Err(refused(alloc, layout, Code::NoReading, tokens));
+    };
+    simple_term(alloc, layout, templates, names, scope, query, tokens, form)
+}
+
+// The term of a phrase without brackets that has this form.
+fn simple_term(
+    alloc: Global,
+    layout: &Layout,
+    templates: &Templates,
+    names: &mut Names,
+    scope: &mut Scope,
+    query: bool,
+    tokens: Span,
+    form: PhraseForm,
+) -> Result<Term, Stop>
+    requires layout { IsLayout layout.now }
+    requires tokens { IsSomeSpan layout.now tokens }
+    requires form { IsFormInRange form }
+    requires few { length names.old < 2 ^ 32 - 1 }
+    ensures exact { Gives (λ term. record { value = term; names = names.new; scope = scope.new }) result (by_simple_form templates.now names.old scope.old query layout.now (tokens_of layout.now tokens) (Some form)) }
+    ensures names { IsLonger names.old names.new }
+    ensures scope { IsLongerScope scope.old scope.new }
+{
+    match form {
+        PhraseForm::Number(n) => Ok(number(alloc, n)?),
+        PhraseForm::Day(day) => Ok(date(alloc, day)?),
         PhraseForm::Quote => Ok(constant(alloc, names, layout.word(tokens.from))?),
         PhraseForm::A => introduced(alloc, layout, scope, tokens),
         PhraseForm::Which => {
             if query {
-                introduced(alloc, layout, scope, tokens)
+                asked(alloc, layout, scope, tokens)
             } else {
                 Err(refused(alloc, layout, Code::WhichHere, tokens))
             }
         }
         PhraseForm::The => referred(alloc, layout, templates, names, scope, tokens),
         PhraseForm::Constant => named(alloc, layout, names, tokens),
-        _ => Err(refused(alloc, layout, Code::NoReading, tokens)),
+        PhraseForm::List => Err(refused(alloc, layout, Code::NoReading, tokens)),
     }
 }
 
@@ -96,6 +152,22 @@ pub(crate) fn refused(alloc: Global, layout: &Layout, code: Code, tokens: Span) 
 {
     let first = layout.token(tokens.from);
     Stop::Refused(Refusal::at(alloc, code, first.line, first.column))
+}
+
+// The term of a number.
+fn number(alloc: Global, n: i64) -> Result<Term, AllocError>
+    requires { IsNumber n }
+    ensures { IfOk result (λ term. term ≡ number n) }
+{
+    Term::leaf(alloc, Sym::Num(n))
+}
+
+// The term of a date.
+fn date(alloc: Global, day: i32) -> Result<Term, AllocError>
+    requires { IsDay day }
+    ensures { IfOk result (λ term. term ≡ date day) }
+{
+    Term::leaf(alloc, Sym::Day(day))
 }
 
 // The constant of a name.
@@ -129,8 +201,31 @@ fn introduced(alloc: Global, layout: &Layout, scope: &mut Scope, tokens: Span) -
         Gives (λ term. record { value = term; names = names; scope = scope.new }) result (introducing names scope.old (first_of ts) (name_of layout.now (drop 1 ts))) }
     ensures longer { IsLongerScope scope.old scope.new }
 {
-    let name = phrase_name(alloc, layout, behind_article(tokens))?;
-    match scope.introduce(name.as_str())? {
+    let name = phrase_name(alloc, layout, after_article(tokens))?;
+    let intro = scope.introduce(name.as_str())?;
+    answered(alloc, layout, intro, tokens)
+}
+
+// The variable that a phrase with `which` introduces.
+fn asked(alloc: Global, layout: &Layout, scope: &mut Scope, tokens: Span) -> Result<Term, Stop>
+    requires layout { IsLayout layout.now }
+    requires tokens { IsSomeSpan layout.now tokens }
+    ensures exact { (names : List (List ℕ)) → let ts = tokens_of layout.now tokens in
+        Gives (λ term. record { value = term; names = names; scope = scope.new }) result (asking names scope.old (first_of ts) (name_of layout.now (drop 1 ts))) }
+    ensures longer { IsLongerScope scope.old scope.new }
+{
+    let name = phrase_name(alloc, layout, after_article(tokens))?;
+    let intro = scope.ask(name.as_str())?;
+    answered(alloc, layout, intro, tokens)
+}
+
+// The variable that was introduced with this answer.
+fn answered(alloc: Global, layout: &Layout, intro: Intro, tokens: Span) -> Result<Term, Stop>
+    requires layout { IsLayout layout.now }
+    requires tokens { IsSomeSpan layout.now tokens }
+    ensures exact { (names : List (List ℕ)) (scope : ScopeState) → Gives (λ term. record { value = term; names = names; scope = scope }) result (by_introduction names scope (first_of (tokens_of layout.now tokens)) intro) }
+{
+    match intro {
         Intro::New(n) => Ok(Term::leaf(alloc, Sym::Var(n))?),
         Intro::Again => Err(refused(alloc, layout, Code::Again, tokens)),
         Intro::Full => Err(refused(alloc, layout, Code::TooMany, tokens)),
@@ -154,7 +249,7 @@ fn referred(
         Gives (λ term. record { value = term; names = names.new; scope = scope.now }) result (by_place templates.now names.old scope.now (first_of ts) (text_of layout.now (last_of ts)) name (place_of scope.now name)) }
     ensures longer { IsLonger names.old names.new }
 {
-    let name = phrase_name(alloc, layout, behind_article(tokens))?;
+    let name = phrase_name(alloc, layout, after_article(tokens))?;
     if let Some(n) = scope.refer(name.as_str()) {
         return Ok(Term::leaf(alloc, Sym::Var(n))?);
     }
@@ -166,8 +261,8 @@ fn referred(
     Ok(constant(alloc, names, text.as_str())?)
 }
 
-// The tokens of a phrase behind its article.
-fn behind_article(tokens: Span) -> Span
+// The tokens of a phrase after its article.
+fn after_article(tokens: Span) -> Span
     requires { tokens.from < tokens.to }
     ensures { result ≡ record { from = tokens.from + 1; to = tokens.to } }
 {

@@ -17,21 +17,21 @@ impl Model for Lengths {
 }
 
 impl Lengths {
-    /// The lengths of a vector. It takes no memory.
+    /// The lengths of a vector.
     pub fn from_vec(items: Vec<u32>) -> Self
         ensures { result ≡ items.items }
     {
         Lengths { items }
     }
 
-    /// The vector of the lengths. It takes no memory.
+    /// The vector of the lengths.
     pub fn into_vec(self) -> Vec<u32>
         ensures { result.items ≡ self }
     {
         self.items
     }
 
-    /// The lengths, borrowed. It takes no memory.
+    /// The lengths, borrowed.
     pub fn as_slice(&self) -> &[u32]
         ensures { result.now ≡ self.now }
     {

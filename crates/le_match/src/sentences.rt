@@ -6,7 +6,7 @@ ghost use Rattle.le_layout.specs.Layout.{IsLayout};
 ghost use Rattle.le_layout.specs.Words.{IsSpan, IsSomeSpan, tokens_of};
 ghost use Rattle.le_match.specs.Shares.{IsRead, shares_of};
 ghost use Rattle.le_match.specs.Terms.{atom_of, atom_found, terms_of, ambiguous as ambiguous_of};
-ghost use Rattle.le_match.specs.Walks.{IsLongerScope, IsPlace, share_of};
+ghost use Rattle.le_match.specs.Walks.{IsLongerScope, IsPlace, share_of, total_size};
 
 use crate::phrases::{phrase_term, refused};
 use crate::sharing::{Place, places};
@@ -23,8 +23,8 @@ use std::alloc::{AllocError, Global};
 /// of its slots from left to right. Refused with `NoReading` at the first token exactly where the sentence
 /// has no reading, with `Ambiguous` there exactly where it has two or more best readings, of which the
 /// refusal shows the first two as marked sentences, and with the first refusal of a slot's phrase, as
-/// `term` says. The other error is want of memory. After both the names and the scope are as before. The
-/// layout is a sound one and has the tokens, and there are fewer than 2^31 names.
+/// `term` says. After an error the names and the scope are as before. The layout is a valid one and has
+/// the tokens, and there are fewer than 2^31 names.
 pub fn read(
     alloc: Global,
     layout: &Layout,
@@ -52,7 +52,7 @@ pub fn read(
     }
 }
 
-// The atom of a reading. After a refusal and want of memory the names and the scope are as before.
+// The atom of a reading. After an error the names and the scope are as before.
 fn single(
     alloc: Global,
     layout: &Layout,
@@ -84,7 +84,7 @@ fn single(
     found
 }
 
-// The atom of a reading. After a refusal and want of memory names may have come, behind those before.
+// The atom of a reading. After an error names may have come, after those before.
 fn atom(
     alloc: Global,
     layout: &Layout,
@@ -124,7 +124,7 @@ fn terms(
 ) -> Result<Terms, Stop>
     requires layout { IsLayout layout.now }
     requires places { All (IsPlace layout.now) places.now }
-    requires few { length names.old + length places.now < 2 ^ 32 - 1 }
+    requires few { length names.old + total_size places.now < 2 ^ 32 - 1 }
     ensures exact { Gives (λ terms. record { value = terms; names = names.new; scope = scope.new }) result (terms_of templates.now names.old scope.old query layout.now (map (share_of layout.now) places.now)) }
     ensures names { take (length names.old) names.new ≡ names.old }
     ensures scope { IsLongerScope scope.old scope.new }

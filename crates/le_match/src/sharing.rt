@@ -3,7 +3,7 @@ ghost use Rattle.std.specs.List.{All};
 ghost use Rattle.le_layout.specs.Layout.{IsLayout};
 ghost use Rattle.le_layout.specs.Words.{IsSpan, tokens_of};
 ghost use Rattle.le_match.specs.Shares.{IsRead, Fits, edge, shares, shares_of};
-ghost use Rattle.le_match.specs.Walks.{IsPlace, share_of};
+ghost use Rattle.le_match.specs.Walks.{IsPlace, share_of, total_size};
 
 use crate::Reading;
 use crate::marked::is_marked;
@@ -34,7 +34,7 @@ pub(crate) fn places(
     requires read { IsRead templates.now layout.now (tokens_of layout.now tokens) reading.now }
     ensures exact { IfOk result (λ found. map (share_of layout.now) found.items ≡ shares_of templates.now (tokens_of layout.now tokens) reading.now) }
     ensures within { IfOk result (λ found. All (IsPlace layout.now) found.items) }
-    ensures few { IfOk result (λ found. length found.items ≤ tokens.to - tokens.from) }
+    ensures few { IfOk result (λ found. total_size found.items ≤ tokens.to - tokens.from) }
 {
     let edge = edge(layout, tokens);
     let parts = templates.get(reading.pred).parts.as_slice();
@@ -63,7 +63,7 @@ fn places_of(
     requires fits { Fits layout.now edge parts.now (tokens_of layout.now tokens) lengths.now }
     ensures exact { IfOk result (λ found. map (share_of layout.now) found.items ≡ shares edge parts.now lengths.now (tokens_of layout.now tokens)) }
     ensures within { IfOk result (λ found. All (IsPlace layout.now) found.items) }
-    ensures few { IfOk result (λ found. length found.items ≤ tokens.to - tokens.from) }
+    ensures few { IfOk result (λ found. total_size found.items ≤ tokens.to - tokens.from) }
 {
     let mut found = Vec::new(alloc);
     let mut at = tokens.from;

@@ -35,14 +35,25 @@ fn whole(layout: &Layout) -> Option<Span>
     })
 }
 
-// A constant's name, or a variable's number behind a question mark.
-fn put_term(out: &mut Text, names: &Names, term: &Term) -> Result<(), AllocError> {
-    match term.root() {
+// A constant's name, a variable's number after a question mark, `(` for a cell and `nil` for the empty list.
+fn put_symbol(out: &mut Text, names: &Names, symbol: Sym) -> Result<(), AllocError> {
+    match symbol {
         Sym::Name(n) if n < names.count() => out.push_str(names.name(n)),
+        Sym::Num(2) => out.push_str("2"),
         Sym::Var(0) => out.push_str("?0"),
         Sym::Var(1) => out.push_str("?1"),
+        Sym::Nil => out.push_str("nil"),
+        Sym::Cons => out.push_str("("),
         _ => out.push_str("?"),
     }
+}
+
+// The symbols of a term.
+fn put_term(out: &mut Text, names: &Names, term: &Term) -> Result<(), AllocError> {
+    for symbol in term.as_syms() {
+        put_symbol(out, names, *symbol)?;
+    }
+    Ok(())
 }
 
 // Terms, each with a semicolon.
@@ -107,7 +118,7 @@ const TEMPLATES: [&str; 3] = [
     "*a thing* is in *a place*",
 ];
 
-const READ: [(&str, &str); 20] = [
+const READ: [(&str, &str); 33] = [
     ("Bob IS Happy", "Bob;"),
     ("Bob is different from Ann", "Bob;Ann;"),
     ("Bob is in love likes Ann", "Bob;love likes Ann;"),
@@ -123,7 +134,8 @@ const READ: [(&str, &str); 20] = [
     ("*Bob* likes *Ann", "NoReading"),
     ("*Bob* likes **", "NoReading"),
     ("*Bob* likes: *Ann*", "NoReading"),
-    ("a man likes An apple", "?0;?1;"),
+    ("a man is happy", "?0;"),
+    ("[An apple, the man | the APPLE] is happy", "(?1(?0?1;"),
     ("THE Man likes the APPLE", "?0;?1;"),
     ("Bob likes a MAN", "Again later"),
     ("which cat is happy", "WhichHere"),
@@ -131,6 +143,21 @@ const READ: [(&str, &str); 20] = [
     ("a bird likes a fish", "TooMany later"),
     ("the bird is happy", "the bird;"),
     ("Bob likes The tea", "Bob;the tea;"),
+    ("[] likes [2]", "nil;(2nil;"),
+    (
+        "[Bob, Ann] likes [[], [Ann likes tea]]",
+        "(Bob(Annnil;(nil((Ann likes teanilnil;",
+    ),
+    ("*[Bob | Ann]* likes *tea*", "(BobAnn;tea;"),
+    ("[2, [a MAN]] is happy", "Again later"),
+    ("[2 | the big PERSON] is happy", "Dangling later"),
+    ("[2, [which cat]] is happy", "WhichHere later"),
+    ("[a bird, [Bob | a fish]] is happy", "TooMany later"),
+    ("[Bob,] is happy", "NoReading"),
+    ("[| Bob] is happy", "NoReading"),
+    ("[Bob | Ann, tea] is happy", "NoReading"),
+    ("[Bob is happy", "NoReading"),
+    ("[every car] is happy", "NoReading"),
 ];
 
 // Declares the templates.
@@ -193,8 +220,8 @@ fn lengths(alloc: Global, layout: &Layout) -> Result<Option<Reading>, AllocError
     }
 }
 
-// The first symbol of the term of a phrase in a query.
-fn first_symbol(alloc: Global, layout: &Layout) -> Result<Option<Sym>, Stop>
+// The symbols of the term of a phrase in a query, whose first variable `which` introduced.
+fn asked_symbols(alloc: Global, layout: &Layout) -> Result<Option<Vec<Sym>>, Stop>
     requires { IsLayout layout.now }
 {
     let templates = Templates::new(alloc)?;
@@ -206,7 +233,10 @@ fn first_symbol(alloc: Global, layout: &Layout) -> Result<Option<Sym>, Stop>
     let found = term(
         alloc, layout, &templates, &mut names, &mut scope, true, span,
     )?;
-    Ok(Some(found.root()))
+    if scope.asked() != [0].as_slice() {
+        return Ok(None);
+    }
+    Ok(Some(found.into_syms()))
 }
 
 #[test]
@@ -223,7 +253,11 @@ fn a_best_reading(rt: HostRuntime) -> Result<(), Fail> {
 #[test]
 fn a_term(rt: HostRuntime) -> Result<(), Fail> {
     let alloc = rt.alloc();
-    let layout = scan(alloc, b"which cat")?;
-    assert!(rt; first_symbol(alloc, &layout)? == Some(Sym::Var(0)));
+    let layout = scan(alloc, b"[which thing, 2]")?;
+    let Some(symbols) = asked_symbols(alloc, &layout)? else {
+        return Err(Fail::from("no term"));
+    };
+    let expected = [Sym::Cons, Sym::Var(0), Sym::Cons, Sym::Num(2), Sym::Nil];
+    assert!(rt; symbols.as_slice() == expected.as_slice());
     Ok(())
 }

@@ -1,6 +1,6 @@
--- Goals of a search and their resolvents (Lloyd, Foundations of Logic Programming, chapter 2, section 7). That variables are renamed by raising their numbers, and that the most general unifier is the solution, is this project's profile.
-use Rattle.std.specs.Prelude.{ℕ, ◌+◌, ◌==◌, List, [], ◌∷◌, ◌++◌, map, zip, filter_map, Option, None, option_map, if◌then◌else◌}
-use Rattle.std.specs.List.{AllByRecursion}
+-- Goals of a search, the literal that is selected, and what becomes of a goal by a step (Lloyd, Foundations of Logic Programming, chapter 2, section 7, and chapter 3). That variables are renamed by raising their numbers, and that the most general unifier is the solution, is this project's profile.
+use Rattle.std.specs.Prelude.{ℕ, suc, ◌+◌, ◌==◌, Bool, false, not, ◌&&◌, List, [], ◌∷◌, ◌++◌, length, map, zip, Option, Some, None, option_map, if◌then◌else◌}
+use Rattle.std.specs.List.{cons_option, AllByRecursion}
 use Rattle.le_terms.specs.declared.program.Atom.{Atom}
 use Rattle.le_terms.specs.declared.program.Form.{Form}
 use Rattle.le_terms.specs.declared.program.Form.TheVariants.{Pos, Neg, Calc, Gather}
@@ -9,7 +9,7 @@ use Rattle.le_terms.specs.declared.program.Clause.{Clause}
 use Rattle.le_terms.specs.declared.program.Asked.{Asked}
 use Rattle.le_terms.specs.declared.program.Program.{Program}
 use Rattle.le_terms.specs.Tree.{Tree, variable}
-use Rattle.le_terms.specs.Variables.{replaced}
+use Rattle.le_terms.specs.Variables.{all_occurrences, replaced}
 use Rattle.le_subst.specs.Unifiers.{Equation, Bindings, value_at}
 use Rattle.le_subst.specs.Solution.{solve_of}
 
@@ -36,6 +36,38 @@ literal_under by literal = record { line = literal.line; form = form_under by li
 abbrev pub literals_under : (ℕ → Tree) → List Literal → List Literal
 literals_under by literals = map (literal_under by) literals
 
+-- an atom has no variable
+abbrev pub is_ground_atom : Atom → Bool
+is_ground_atom atom = length (all_occurrences atom.args) == 0
+
+-- a negation whose atom holds a variable
+abbrev pub is_open_negation : Form → Bool
+is_open_negation (Pos atom) = false
+is_open_negation (Neg atom) = not (is_ground_atom atom)
+is_open_negation (Calc atom) = false
+is_open_negation (Gather fold result value atom) = false
+
+-- a literal is passed over when one is selected: in version 2 a negation whose atom holds a variable, in version 1 none
+abbrev pub is_delayed : ℕ → Literal → Bool
+is_delayed version literal = version == 2 && is_open_negation literal.form
+
+-- one of some things, with those before it and those behind it
+pub record Picked (X : Type 0) : Type 0 where
+  pub before : List X
+  pub chosen : X
+  pub behind : List X
+
+-- the first of some things that isn't passed over
+abbrev pub pick : {X : Type 0} → (X → Bool) → List X → Option (Picked X)
+pick is_passed [] = None
+pick is_passed (x ∷ xs) =
+    if is_passed x then option_map (λ picked. record { before = x ∷ picked.before; chosen = picked.chosen; behind = picked.behind }) (pick is_passed xs)
+    else Some (record { before = []; chosen = x; behind = xs })
+
+-- the selected literal of a goal: in version 1 its first, in version 2 its first that isn't a negation whose atom holds a variable; none where there is no such literal
+abbrev pub selected : ℕ → List Literal → Option (Picked Literal)
+selected version literals = pick (is_delayed version) literals
+
 -- a goal of a search: the number of the next variable, the literals that are still to be refuted, and the terms of the answer so far
 pub record Goal : Type 0 where
   pub next : ℕ
@@ -54,33 +86,54 @@ head_equations next clause atom = zip (terms_under (raised next) clause.head.arg
 abbrev pub head_solution : ℕ → Clause → Atom → Option Bindings
 head_solution next clause atom = if clause.head.pred == atom.pred then solve_of (head_equations next clause atom) else None
 
--- the resolvent that a unifier gives: the clause's body, renamed apart, before the rest of the literals, and the terms, all under the unifier
-abbrev pub resolvent_by : Goal → List Literal → Clause → Bindings → Goal
-resolvent_by goal rest clause bindings = record {
+-- some literals in the place of the selected one
+abbrev pub put_in_place : {X : Type 0} → Picked X → List X → List X
+put_in_place picked new = picked.before ++ (new ++ picked.behind)
+
+-- the rest of a goal: its literals without the selected one
+abbrev pub rest_of : Picked Literal → List Literal
+rest_of picked = put_in_place picked []
+
+-- the resolvent that a unifier gives: the clause's body, renamed apart, in the selected literal's place, and the terms, all under the unifier
+abbrev pub resolvent_by : Goal → Picked Literal → Clause → Bindings → Goal
+resolvent_by goal picked clause bindings = record {
   next = goal.next + clause.vars;
-  literals = literals_under (value_at bindings) (literals_under (raised goal.next) clause.body ++ rest);
+  literals = literals_under (value_at bindings) (put_in_place picked (literals_under (raised goal.next) clause.body));
   terms = terms_under (value_at bindings) goal.terms;
 }
 
--- the resolvent of a goal by a clause, where this literal is selected and these are the rest; none where it is no atom, or the head doesn't unify with it
-abbrev pub resolvent_at : Goal → Form → List Literal → Clause → Option Goal
-resolvent_at goal (Pos atom) rest clause = option_map (resolvent_by goal rest clause) (head_solution goal.next clause atom)
-resolvent_at goal (Neg atom) rest clause = None
-resolvent_at goal (Calc atom) rest clause = None
-resolvent_at goal (Gather fold result value atom) rest clause = None
+-- the goal without the selected literal, under a unifier
+abbrev pub rest_by : Goal → Picked Literal → Bindings → Goal
+rest_by goal picked bindings = record {
+  next = goal.next;
+  literals = literals_under (value_at bindings) (rest_of picked);
+  terms = terms_under (value_at bindings) goal.terms;
+}
 
--- the same, where these are the goal's literals, the first of which is selected; none where there is none
-abbrev pub resolvent_of : Goal → List Literal → Clause → Option Goal
-resolvent_of goal [] clause = None
-resolvent_of goal (literal ∷ rest) clause = resolvent_at goal literal.form rest clause
+-- the goal without the selected literal
+abbrev pub rest_goal : Goal → Picked Literal → Goal
+rest_goal goal picked = record { next = goal.next; literals = rest_of picked; terms = goal.terms }
 
--- the resolvent of a goal by a clause, its first literal selected; none where there is none
-abbrev pub resolvent : Goal → Clause → Option Goal
-resolvent goal clause = resolvent_of goal goal.literals clause
+-- the goal of a subsidiary search: one atom, with the terms that its answers are asked for
+abbrev pub sub_goal : Goal → ℕ → Atom → List Tree → Goal
+sub_goal goal line atom terms = record { next = goal.next; literals = record { line = line; form = Pos atom } ∷ []; terms = terms }
 
--- the resolvents of a goal by some clauses, in the order of the clauses
-abbrev pub resolvents : List Clause → Goal → List Goal
-resolvents clauses goal = filter_map (resolvent goal) clauses
+-- a child of a goal whose selected literal is an atom: the clause's number, how many literals its body has, the unifier, and the resolvent
+pub record Child : Type 0 where
+  pub clause : ℕ
+  pub count : ℕ
+  pub unifier : Bindings
+  pub goal : Goal
+
+-- the child by one clause of this number
+abbrev pub child_by : Goal → Picked Literal → ℕ → Clause → Bindings → Child
+child_by goal picked number clause bindings = record { clause = number; count = length clause.body; unifier = bindings; goal = resolvent_by goal picked clause bindings }
+
+-- the children of a goal whose selected literal is this atom, by some clauses that are numbered from this number on, in their order
+abbrev pub children : Goal → Picked Literal → Atom → ℕ → List Clause → List Child
+children goal picked atom number [] = []
+children goal picked atom number (clause ∷ clauses) =
+    cons_option (option_map (child_by goal picked number clause) (head_solution goal.next clause atom)) (children goal picked atom (suc number) clauses)
 
 -- the variables that are asked for
 abbrev pub asked_terms : List Asked → List Tree
@@ -101,7 +154,7 @@ IsAtom (Gather fold result value atom) = ⊥
 abbrev pub AreAtoms : List Literal → Type 0
 AreAtoms literals = AllByRecursion (λ literal. IsAtom literal.form) literals
 
--- each literal of a program is an atom: what this version of the search knows
+-- each literal of a program is an atom: what the search knows
 pub record HasAtomsAlone (program : Program) : Type 0 where
   pub bodies : AllByRecursion (λ clause. AreAtoms clause.body) program.clauses
   pub query : AreAtoms program.query

@@ -1,2 +1,10 @@
 pub mod Goals
+pub mod Proofs
+pub mod SearchTree
 pub mod Search
+pub mod Derivations
+pub mod Lloyd
+pub mod Visits
+pub mod UnderWay
+pub mod Replay
+pub mod Laws

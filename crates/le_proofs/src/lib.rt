@@ -2,6 +2,15 @@
 //! repository is proved against.
 #![tactic(auto)]
 
+mod derivation;
+mod laws;
 mod next;
+mod node;
 
+pub use derivation::{Derivation, Nodes};
+pub use laws::{
+    accepted_exactly, answers_accepted, answers_admitted, done_is_whole, searches_end,
+    selects_leftmost, tree_unfolds,
+};
 pub use next::Next;
+pub use node::Node;

@@ -8,8 +8,8 @@ use Rattle.le_layout.specs.Layout.{no_token}
 use Rattle.le_layout.specs.Words.{text_of, token_of, is_quote, is_this_word}
 use Rattle.le_layout.proofs.SpanLemmas.{slice_more, slice_none}
 use Rattle.le_scope.specs.declared.phrase.PhraseForm.{PhraseForm}
-use Rattle.le_scope.specs.declared.phrase.PhraseForm.TheVariants.{Quote}
-use Rattle.le_scope.specs.Phrases.{is_name, is_plain, begins_with, article, quote_form, article_form, joined, phrase_name, phrase_form}
+use Rattle.le_scope.specs.declared.phrase.PhraseForm.TheVariants.{Quote, Constant}
+use Rattle.le_scope.specs.Phrases.{is_name, is_plain, begins_with, article, quote_form, word_form, name_form, article_form, joined, phrase_name, simple_form}
 
 -- the tokens from one place up to another
 abbrev pub span : Layout → ℕ → ℕ → List Token
@@ -84,6 +84,14 @@ quote_other [] h = refl
 quote_other (t ∷ []) h = absurd (h refl)
 quote_other (t ∷ u ∷ ts) h = refl
 
+pub name_other : (l : Layout) (ts : List Token) → (length ts ≡ 1 → ⊥) → Constant ≡ name_form l ts
+name_other l [] h = refl
+name_other l (t ∷ []) h = absurd (h refl)
+name_other l (t ∷ u ∷ ts) h = refl
+
+pub name_one : (l : Layout) (ts : List Token) (t : Token) (w : List ℕ) (f : PhraseForm) → ts ≡ t ∷ [] → w ≡ text_of l t → f ≡ word_form w → f ≡ name_form l ts
+name_one l ts t w f e g h = h ∙ ap word_form g ∙ sym (ap (name_form l) e)
+
 pub article_at : (l : Layout) (from to : ℕ) (b : Bool) (o : Option PhraseForm) → from < to → to ≤ length l.tokens → b ≡ is_name l (span l (from + 1) to) → o ≡ article l (token_of l from) → cond b o None ≡ article_form l (span l from to)
 article_at l from to b o low high n a =
     ap (λ c. cond c o None) n
@@ -97,6 +105,6 @@ pub no_name : (l : Layout) (from to : ℕ) → to ≤ from → [] ≡ phrase_nam
 unfolding phrase_name
 no_name l from to h = sym (ap (phrase_name l) (span_none l from to h))
 
-pub no_form : (l : Layout) (from to : ℕ) → to ≤ from → None ≡ phrase_form l (span l from to)
-unfolding phrase_form is_name
-no_form l from to h = sym (ap (phrase_form l) (span_none l from to h))
+pub no_form : (l : Layout) (from to : ℕ) → to ≤ from → None ≡ simple_form l (span l from to)
+unfolding simple_form is_name
+no_form l from to h = sym (ap (simple_form l) (span_none l from to h))

@@ -1,100 +1,38 @@
 -- The forms of phrases, and the names in them: this project's profile.
-use Rattle.std.specs.Prelude.{ℕ, Bool, true, false, not, ◌&&◌, ◌||◌, nat_le, if◌then◌else◌, Option, Some, None, List, [], ◌∷◌, ◌++◌, length, map, flat_map, codes}
-use Rattle.std.specs.List.{list_all, list_any}
+use Rattle.std.specs.Prelude.{ℕ, ◌==◌, Bool, false, ◌&&◌, if◌then◌else◌, Option, Some, None, List, [], ◌∷◌, ◌++◌, length, map, flat_map}
 use Rattle.std.specs.Option.{option_or, is_some}
-use Rattle.std.specs.Str.{bytes_eq}
 use Rattle.le_layout.specs.declared.token.Token.{Token}
 use Rattle.le_layout.specs.declared.layout.Layout.{Layout}
-use Rattle.le_layout.specs.Words.{text_of, same_word, is_word, is_quote, is_this_word}
+use Rattle.le_layout.specs.Words.{text_of}
+use Rattle.le_values.specs.Numbers.{IsNumber}
+use Rattle.le_values.specs.Days.{IsDay}
 use Rattle.le_scope.specs.declared.phrase.PhraseForm.{PhraseForm}
-use Rattle.le_scope.specs.declared.phrase.PhraseForm.TheVariants.{Quote, A, The, Which, Constant}
+use Rattle.le_scope.specs.declared.phrase.PhraseForm.TheVariants.{Number, Day, List as ListForm}
+use Rattle.le_scope.specs.Lists.{is_open, first_row}
+unfoldable pub use Rattle.le_scope.specs.Simple.{connectives, particles, determiners, is_plain_word, is_plain, is_name, begins_with, not_the_case, the_case, is_determiner, has_determiner, begins_otherwise, is_indefinite, article, quote_form, article_form, value_form, word_form, name_form, constant_form, simple_form, is_simple_phrase}
 
--- the words that are never plain, ASCII case ignored
-abbrev pub connectives : List (List ℕ)
-connectives = codes "if" ∷ codes "and" ∷ codes "or" ∷ codes "which" ∷ codes "each" ∷ []
+-- whether the tokens are one list: the first of them is an opening bracket, and the list that begins there has all of them
+abbrev pub is_list_phrase : Layout → List Token → Bool
+is_list_phrase layout [] = false
+is_list_phrase layout (t ∷ ts) = is_open t.kind && ((first_row layout (t ∷ ts)).phrase == length (t ∷ ts))
 
--- the words that aren't plain where they are spelled so
-abbrev pub particles : List (List ℕ)
-particles = codes "+" ∷ codes "-" ∷ codes "/" ∷ codes "a" ∷ codes "an" ∷ []
+-- the form of a list
+abbrev pub list_form : Layout → List Token → Option PhraseForm
+list_form layout ts = if is_list_phrase layout ts then Some ListForm else None
 
--- A plain word is none of `if`, `and`, `or`, `which` and `each`, ASCII case ignored, and none of `+`, `-`, `/`, `a` and `an`, case kept.
-unfoldable pub is_plain_word : List ℕ → Bool
-is_plain_word w = not (list_any (same_word w) connectives) && not (list_any (bytes_eq w) particles)
-
--- whether a token is a plain word
-unfoldable pub is_plain : Layout → Token → Bool
-is_plain layout t = is_word t.kind && is_plain_word (text_of layout t)
-
--- A name is 1 to 12 plain words.
-unfoldable pub is_name : Layout → List Token → Bool
-is_name layout ts = nat_le 1 (length ts) && (nat_le (length ts) 12 && list_all (is_plain layout) ts)
-
--- whether the first tokens are these words, ASCII case ignored
-abbrev pub begins_with : Layout → List Token → List (List ℕ) → Bool
-begins_with layout ts [] = true
-begins_with layout [] (w ∷ ws) = false
-begins_with layout (t ∷ ts) (w ∷ ws) = is_this_word layout w t && begins_with layout ts ws
-
--- the words that no constant begins with, ASCII case ignored
-abbrev pub determiners : List (List ℕ)
-determiners = codes "the" ∷ codes "a" ∷ codes "an" ∷ codes "another" ∷ codes "some" ∷ codes "any" ∷ codes "every" ∷ []
-
--- the words that open a negation
-abbrev pub not_the_case : List (List ℕ)
-not_the_case = codes "it" ∷ codes "is" ∷ codes "not" ∷ codes "the" ∷ codes "case" ∷ codes "that" ∷ []
-
--- the words that mark the second block of a `for all`
-abbrev pub the_case : List (List ℕ)
-the_case = codes "it" ∷ codes "is" ∷ codes "the" ∷ codes "case" ∷ codes "that" ∷ []
-
--- whether a token is one of these words
-unfoldable pub is_determiner : Layout → Token → Bool
-is_determiner layout t = is_word t.kind && list_any (same_word (text_of layout t)) determiners
-
--- whether the first token is one of these words
-abbrev pub has_determiner : Layout → List Token → Bool
-has_determiner layout [] = false
-has_determiner layout (t ∷ ts) = is_determiner layout t
-
--- whether tokens begin as no constant does: with a determiner, or with the words `it is not the case that` or `it is the case that`
-unfoldable pub begins_otherwise : Layout → List Token → Bool
-begins_otherwise layout ts =
-    has_determiner layout ts
-    || (begins_with layout ts not_the_case || begins_with layout ts the_case)
-
--- whether a token is `a` or `an`, ASCII case ignored
-unfoldable pub is_indefinite : Layout → Token → Bool
-is_indefinite layout t = is_this_word layout (codes "a") t || is_this_word layout (codes "an") t
-
--- the form that a token gives to the name behind it: `a` and `an`, `the`, and `which`, ASCII case ignored
-unfoldable pub article : Layout → Token → Option PhraseForm
-article layout t =
-    if is_indefinite layout t then Some A
-    else (if is_this_word layout (codes "the") t then Some The
-    else (if is_this_word layout (codes "which") t then Some Which
-    else None))
-
--- the form of one quoted text
-abbrev pub quote_form : List Token → Option PhraseForm
-quote_form (t ∷ []) = if is_quote t.kind then Some Quote else None
-quote_form _ = None
-
--- the form of an article with a name behind it
-abbrev pub article_form : Layout → List Token → Option PhraseForm
-article_form layout [] = None
-article_form layout (t ∷ ts) = if is_name layout ts then article layout t else None
-
--- the form of a name that begins as a constant does
-abbrev pub constant_form : Layout → List Token → Option PhraseForm
-constant_form layout ts = if is_name layout ts && not (begins_otherwise layout ts) then Some Constant else None
-
--- The form of a phrase: a quoted text, an article with a name, or a constant, or none where the tokens are no phrase.
+-- The form of a phrase: that of a phrase without brackets, or a list, or none where the tokens are no phrase.
 unfoldable pub phrase_form : Layout → List Token → Option PhraseForm
-phrase_form layout ts = option_or (quote_form ts) (option_or (article_form layout ts) (constant_form layout ts))
+phrase_form layout ts = option_or (simple_form layout ts) (list_form layout ts)
 
 -- whether the tokens are a phrase
 abbrev pub is_phrase : Layout → List Token → Bool
 is_phrase layout ts = is_some (phrase_form layout ts)
+
+-- a number is from -10^18 to 10^18, and a day is of the years 0001 to 9999
+abbrev pub IsFormInRange : PhraseForm → Type 0
+IsFormInRange (Number n) = IsNumber n
+IsFormInRange (Day day) = IsDay day
+IsFormInRange _ = Unit {0}
 
 -- texts joined by one space
 abbrev pub joined : List (List ℕ) → List ℕ

@@ -3,14 +3,16 @@ ghost use Rattle.std.specs.List.{list_all, list_any};
 ghost use Rattle.std.specs.Str.{bytes_eq};
 ghost use Rattle.le_layout.specs.Layout.{IsLayout};
 ghost use Rattle.le_layout.specs.Words.{IsSpan, tokens_of, token_of, same_word};
-ghost use Rattle.le_scope.specs.Phrases.{phrase_form, quote_form, article_form, article, constant_form, is_name, is_plain, is_plain_word, begins_otherwise, begins_with, has_determiner, is_determiner, is_indefinite, phrase_name as name_of};
+ghost use Rattle.le_scope.specs.Phrases.{phrase_form, simple_form, name_form, word_form, IsFormInRange, quote_form, article_form, article, constant_form, is_name, is_plain, is_plain_word, begins_otherwise, begins_with, has_determiner, is_determiner, is_indefinite, phrase_name as name_of};
 
+use crate::lengths::phrase_lengths;
+use crate::lists::is_open;
 use le_base::{Span, Text};
 use le_layout::Layout;
+use le_values::{day_of, number_of};
 use std::alloc::{AllocError, Global};
 
-/// The form of a phrase. Of these forms only `Quote`, `A`, `The`, `Which` and `Constant` come now: words
-/// that are numbers or dates, and lists, aren't read yet.
+/// The form of a phrase.
 #[derive(Clone, Copy, Debug, PartialEq, Eq)]
 pub enum PhraseForm {
     /// A number.
@@ -31,28 +33,44 @@ pub enum PhraseForm {
     Constant,
 }
 
-/// The form of the phrase that some tokens are, or None exactly where they are no phrase. A name is 1 to
-/// 12 plain words. A plain word is none of `if`, `and`, `or`, `which` and `each`, ASCII case ignored, nor
-/// `+`, `-` or `/` alone, nor `a` or `an` in lower case. A phrase is one quoted text, or `a`, `an`, `the`
-/// or `which` (ASCII case ignored) and a name, or a name that is a constant: it doesn't begin with `the`,
-/// `a`, `an`, `another`, `some`, `any` or `every`, nor with the words `it is not the case that` or
-/// `it is the case that` (ASCII case ignored). The layout is a sound one and has the tokens. The error is
-/// want of memory, which doesn't come yet, since only lists will take any.
-pub fn shape(
-    _alloc: Global,
-    layout: &Layout,
-    tokens: Span,
-) -> Result<Option<PhraseForm>, AllocError>
+/// The form of the phrase that some tokens are, or None exactly where they are no phrase. A phrase is a
+/// list, or has no brackets.
+///
+/// A list is `[]`, or `[`, phrases with commas between them, and `]`, or the same with `|` and one more
+/// phrase before the `]`; at least one phrase stands before the `|`.
+///
+/// A name is 1 to 12 plain words. A plain word is none of `if`, `and`, `or`, `which` and `each`, ASCII case ignored, nor
+/// `+`, `-` or `/` alone, nor `a` or `an` in lower case. A phrase without brackets is one quoted text, or `a`, `an`, `the`
+/// or `which` (ASCII case ignored) and a name, or a name that doesn't begin with `the`, `a`, `an`,
+/// `another`, `some`, `any` or `every`, nor with the words `it is not the case that` or
+/// `it is the case that` (ASCII case ignored). Of these last names one word that is a number (an optional
+/// `-` and ASCII digits) has the form `Number`, one that is a date (`YYYY-MM-DD`) the form `Day`, and any
+/// other is a constant.
+///
+/// The layout is a valid one and has the tokens. The cost is in proportion to the tokens.
+pub fn shape(alloc: Global, layout: &Layout, tokens: Span) -> Result<Option<PhraseForm>, AllocError>
     requires layout { IsLayout layout.now }
     requires tokens { IsSpan layout.now tokens }
     ensures form { IfOk result (λ form. form ≡ phrase_form layout.now (tokens_of layout.now tokens)) }
     ensures some { IfOk result (λ form. IfSome form (λ f. tokens.from < tokens.to)) }
+    ensures in_range { IfOk result (λ form. IfSome form IsFormInRange) }
 {
-    Ok(form_of(layout, tokens))
+    if tokens.to <= tokens.from {
+        return Ok(None);
+    }
+    if !is_open(layout.token(tokens.from).kind) {
+        return Ok(form_of(layout, tokens));
+    }
+    let lengths = phrase_lengths(alloc, layout, tokens)?;
+    if lengths[0].most == tokens.to - tokens.from {
+        Ok(Some(PhraseForm::List))
+    } else {
+        Ok(None)
+    }
 }
 
 /// The name that some tokens spell: their texts joined by one space, or the empty text where there is no
-/// token. The layout is a sound one and has the tokens. The error is want of memory.
+/// token. The layout is a valid one and has the tokens.
 pub fn phrase_name(alloc: Global, layout: &Layout, tokens: Span) -> Result<Text, AllocError>
     requires layout { IsLayout layout.now }
     requires tokens { IsSpan layout.now tokens }
@@ -69,13 +87,14 @@ pub fn phrase_name(alloc: Global, layout: &Layout, tokens: Span) -> Result<Text,
     Ok(name)
 }
 
-// The form of the phrase that some tokens are, where they are one.
-#[tactic(auto, unfolding(crate::specs::Phrases::phrase_form))]
+// The form of the phrase without brackets that some tokens are, where they are one.
+#[tactic(auto, unfolding(crate::specs::Simple::simple_form))]
 fn form_of(layout: &Layout, tokens: Span) -> Option<PhraseForm>
     requires layout { IsLayout layout.now }
     requires tokens { IsSpan layout.now tokens }
-    ensures form { result ≡ phrase_form layout.now (tokens_of layout.now tokens) }
+    ensures form { result ≡ simple_form layout.now (tokens_of layout.now tokens) }
     ensures some { IfSome result (λ f. tokens.from < tokens.to) }
+    ensures in_range { IfSome result IsFormInRange }
 {
     if tokens.to <= tokens.from {
         return None;
@@ -92,7 +111,8 @@ fn form_of(layout: &Layout, tokens: Span) -> Option<PhraseForm>
 // The form of one quoted text.
 fn quote_form(layout: &Layout, tokens: Span) -> Option<PhraseForm>
     requires tokens { IsSpan layout.now tokens }
-    ensures { result ≡ quote_form (tokens_of layout.now tokens) }
+    ensures form { result ≡ quote_form (tokens_of layout.now tokens) }
+    ensures in_range { IfSome result IsFormInRange }
 {
     if tokens.to - tokens.from != 1 {
         return None;
@@ -104,12 +124,13 @@ fn quote_form(layout: &Layout, tokens: Span) -> Option<PhraseForm>
     }
 }
 
-// The form of an article with a name behind it.
+// The form of an article with a name after it.
 fn article_form(layout: &Layout, tokens: Span) -> Option<PhraseForm>
     requires layout { IsLayout layout.now }
     requires some { tokens.from < tokens.to }
     requires within { tokens.to ≤ length layout.now.tokens }
-    ensures { result ≡ article_form layout.now (tokens_of layout.now tokens) }
+    ensures form { result ≡ article_form layout.now (tokens_of layout.now tokens) }
+    ensures in_range { IfSome result IsFormInRange }
 {
     let name = Span {
         from: tokens.from + 1,
@@ -121,12 +142,13 @@ fn article_form(layout: &Layout, tokens: Span) -> Option<PhraseForm>
     article(layout, tokens.from)
 }
 
-// The form that a token gives to the name behind it.
-#[tactic(auto, unfolding(crate::specs::Phrases::article, le_layout::specs::Words::has_word))]
-fn article(layout: &Layout, token: u32) -> Option<PhraseForm>
+// The form that a token gives to the name after it.
+#[tactic(auto, unfolding(crate::specs::Simple::article, le_layout::specs::Words::has_word))]
+pub(crate) fn article(layout: &Layout, token: u32) -> Option<PhraseForm>
     requires layout { IsLayout layout.now }
     requires inside { token < length layout.now.tokens }
-    ensures { result ≡ article layout.now (token_of layout.now token) }
+    ensures form { result ≡ article layout.now (token_of layout.now token) }
+    ensures in_range { IfSome result IsFormInRange }
 {
     if is_indefinite(layout, token) {
         Some(PhraseForm::A)
@@ -140,7 +162,7 @@ fn article(layout: &Layout, token: u32) -> Option<PhraseForm>
 }
 
 // Whether a token is `a` or `an`.
-#[tactic(auto, unfolding(crate::specs::Phrases::is_indefinite, le_layout::specs::Words::has_word))]
+#[tactic(auto, unfolding(crate::specs::Simple::is_indefinite, le_layout::specs::Words::has_word))]
 fn is_indefinite(layout: &Layout, token: u32) -> bool
     requires layout { IsLayout layout.now }
     requires inside { token < length layout.now.tokens }
@@ -154,17 +176,47 @@ fn constant_form(layout: &Layout, tokens: Span) -> Option<PhraseForm>
     requires layout { IsLayout layout.now }
     requires some { tokens.from < tokens.to }
     requires within { tokens.to ≤ length layout.now.tokens }
-    ensures { result ≡ constant_form layout.now (tokens_of layout.now tokens) }
+    ensures form { result ≡ constant_form layout.now (tokens_of layout.now tokens) }
+    ensures in_range { IfSome result IsFormInRange }
 {
     if is_name(layout, tokens) && !begins_otherwise(layout, tokens) {
-        return Some(PhraseForm::Constant);
+        return Some(name_form(layout, tokens));
     }
     None
 }
 
-// Whether some tokens are a name.
-#[tactic(auto, unfolding(crate::specs::Phrases::is_name))]
-fn is_name(layout: &Layout, tokens: Span) -> bool
+// The form of a name that begins as a constant does.
+fn name_form(layout: &Layout, tokens: Span) -> PhraseForm
+    requires layout { IsLayout layout.now }
+    requires some { tokens.from < tokens.to }
+    requires within { tokens.to ≤ length layout.now.tokens }
+    ensures form { result ≡ name_form layout.now (tokens_of layout.now tokens) }
+    ensures in_range { IsFormInRange result }
+{
+    if tokens.to - tokens.from != 1 {
+        return PhraseForm::Constant;
+    }
+    word_form(layout.word(tokens.from))
+}
+
+// The form of one word that is a name.
+#[tactic(auto, unfolding(crate::specs::Simple::word_form))]
+pub(crate) fn word_form(word: &str) -> PhraseForm
+    ensures form { result ≡ word_form word.now }
+    ensures in_range { IsFormInRange result }
+{
+    if let Some(n) = number_of(word) {
+        return PhraseForm::Number(n);
+    }
+    if let Some(day) = day_of(word) {
+        return PhraseForm::Day(day);
+    }
+    PhraseForm::Constant
+}
+
+/// Whether some tokens are a name: 1 to 12 plain words.
+#[tactic(auto, unfolding(crate::specs::Simple::is_name))]
+pub fn is_name(layout: &Layout, tokens: Span) -> bool
     requires layout { IsLayout layout.now }
     requires tokens { IsSpan layout.now tokens }
     ensures { result ≡ is_name layout.now (tokens_of layout.now tokens) }
@@ -188,8 +240,8 @@ fn are_plain(layout: &Layout, tokens: Span) -> bool
 }
 
 // Whether a token is a plain word.
-#[tactic(auto, unfolding(crate::specs::Phrases::is_plain))]
-fn is_plain(layout: &Layout, token: u32) -> bool
+#[tactic(auto, unfolding(crate::specs::Simple::is_plain))]
+pub(crate) fn is_plain(layout: &Layout, token: u32) -> bool
     requires layout { IsLayout layout.now }
     requires inside { token < length layout.now.tokens }
     ensures { result ≡ is_plain layout.now (token_of layout.now token) }
@@ -202,7 +254,7 @@ const CONNECTIVES: [&str; 5] = ["if", "and", "or", "which", "each"];
 const PARTICLES: [&str; 5] = ["+", "-", "/", "a", "an"];
 
 // Whether a word is plain.
-#[tactic(auto, unfolding(crate::specs::Phrases::is_plain_word))]
+#[tactic(auto, unfolding(crate::specs::Simple::is_plain_word))]
 fn is_plain_word(word: &str) -> bool
     ensures { result ≡ is_plain_word word.now }
 {
@@ -225,12 +277,12 @@ fn is_spelled_as(words: &[&str], word: &str) -> bool
 
 const DETERMINERS: [&str; 7] = ["the", "a", "an", "another", "some", "any", "every"];
 
-const NOT_THE_CASE: [&str; 6] = ["it", "is", "not", "the", "case", "that"];
+pub(crate) const NOT_THE_CASE: [&str; 6] = ["it", "is", "not", "the", "case", "that"];
 
-const THE_CASE: [&str; 5] = ["it", "is", "the", "case", "that"];
+pub(crate) const THE_CASE: [&str; 5] = ["it", "is", "the", "case", "that"];
 
 // Whether some tokens begin as no constant does.
-#[tactic(auto, unfolding(crate::specs::Phrases::begins_otherwise))]
+#[tactic(auto, unfolding(crate::specs::Simple::begins_otherwise))]
 fn begins_otherwise(layout: &Layout, tokens: Span) -> bool
     requires layout { IsLayout layout.now }
     requires some { tokens.from < tokens.to }
@@ -253,8 +305,8 @@ fn has_determiner(layout: &Layout, tokens: Span) -> bool
 }
 
 // Whether a token is a determiner.
-#[tactic(auto, unfolding(crate::specs::Phrases::is_determiner))]
-fn is_determiner(layout: &Layout, token: u32) -> bool
+#[tactic(auto, unfolding(crate::specs::Simple::is_determiner))]
+pub(crate) fn is_determiner(layout: &Layout, token: u32) -> bool
     requires layout { IsLayout layout.now }
     requires inside { token < length layout.now.tokens }
     ensures { result ≡ is_determiner layout.now (token_of layout.now token) }
@@ -263,7 +315,7 @@ fn is_determiner(layout: &Layout, token: u32) -> bool
 }
 
 // Whether the first tokens are these words, ASCII case ignored.
-fn begins_with(layout: &Layout, tokens: Span, words: &[&str]) -> bool
+pub(crate) fn begins_with(layout: &Layout, tokens: Span, words: &[&str]) -> bool
     requires layout { IsLayout layout.now }
     requires tokens { IsSpan layout.now tokens }
     ensures { result ≡ begins_with layout.now (tokens_of layout.now tokens) (map (λ w. w.now) words.now) }

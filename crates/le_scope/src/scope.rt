@@ -2,7 +2,7 @@ ghost use Rattle.std.specs.Prelude.{◌≡◌, ℕ, ◌<◌, ◌≤◌, Some, le
 ghost use Rattle.std.specs.List.{position};
 ghost use Rattle.le_layout.specs.Words.{same_word};
 ghost use Rattle.le_scope.specs.declared.scope.Intro.TheVariants.{New};
-ghost use Rattle.le_scope.specs.Scopes.{empty_scope, place_of, introduction, introduced, first_names};
+ghost use Rattle.le_scope.specs.Scopes.{empty_scope, place_of, introduction, introduced, introduced_by_which, first_names, Ascend};
 
 use le_base::Text;
 use std::alloc::{AllocError, Global};
@@ -20,12 +20,14 @@ pub enum Intro {
 }
 
 /// The names of the variables introduced in one rule, fact or query, numbered from 0 in the order in
-/// which they came. Names are compared with ASCII case ignored and kept as they were first spelled. Each
-/// call walks over the names, of which a document's scope has at most 64.
+/// which they came, and the numbers of those that `which` introduced. Names are compared with ASCII case
+/// ignored and kept as they were first spelled. Each call walks over the names, of which a document's
+/// scope has at most 64.
 #[derive(Drop)]
 pub struct Scope {
     limit: u32,
     names: Vec<Text>,
+    asked: Vec<u32>,
 }
 
 impl Model for Scope {
@@ -33,25 +35,26 @@ impl Model for Scope {
 
     ghost Value = { ScopeState };
 
-    ghost view = { λ s. record { limit = s.limit; names = s.names.items } };
+    ghost view = { λ s. record { limit = s.limit; names = s.names.items; asked = s.asked.items } };
 
-    ghost invariant = { λ s. IsScope (record { limit = s.limit; names = s.names.items }) };
+    ghost invariant = { λ s. IsScope (record { limit = s.limit; names = s.names.items; asked = s.asked.items }) };
 }
 
 impl Scope {
-    /// A scope without names that takes so many. It takes no memory.
+    /// A scope without names that takes so many.
     pub fn with_limit(alloc: Global, limit: u32) -> Self
         ensures { result ≡ empty_scope limit }
     {
         Scope {
             limit,
             names: Vec::new(alloc),
+            asked: Vec::new(alloc),
         }
     }
 
     /// Introduces a name: `Again` exactly where it is there, else `Full` exactly where as many names as
-    /// the limit are there, else `New` with the next number. Only with `New` the scope changes. The error
-    /// is want of memory, and the scope is then as before.
+    /// the limit are there, else `New` with the next number. Only with `New` the scope changes. After an
+    /// error the scope is as before.
     pub fn introduce(&mut self, name: &str) -> Result<Intro, AllocError>
         ensures answer { IfOk result (λ intro. intro ≡ introduction self.old name.now) }
         ensures scope { OnOk result (self.new ≡ introduced self.old name.now) }
@@ -65,11 +68,29 @@ impl Scope {
         Ok(intro)
     }
 
+    /// Introduces a name by `which`: the same as `introduce`, and with `New` the new number is noted.
+    /// After an error the scope is as before.
+    pub fn ask(&mut self, name: &str) -> Result<Intro, AllocError>
+        ensures answer { IfOk result (λ intro. intro ≡ introduction self.old name.now) }
+        ensures scope { OnOk result (self.new ≡ introduced_by_which self.old name.now) }
+        ensures refused { OnErr result (self.new ≡ self.old) }
+    {
+        let intro = self.introduction(name);
+        if let Intro::New(n) = intro {
+            let alloc = *self.names.allocator();
+            let text = Text::of(alloc, name)?;
+            self.names.reserve(1)?;
+            self.asked.push(n)?;
+            self.names.push(text).unwrap();
+        }
+        Ok(intro)
+    }
+
     // What introducing a name answers.
     #[tactic(auto, unfolding(crate::specs::Scopes::introduction))]
     fn introduction(&self, name: &str) -> Intro
         ensures answer { result ≡ introduction self.now name.now }
-        ensures room { (n : ℕ) → result ≡ New n → length self.now.names < self.now.limit }
+        ensures room { (n : ℕ) → result ≡ New n → (length self.now.names < self.now.limit) × (n ≡ length self.now.names) }
     {
         if self.refer(name).is_some() {
             return Intro::Again;
@@ -81,7 +102,7 @@ impl Scope {
         Intro::New(count)
     }
 
-    /// The number of a name, or None exactly where it isn't there. It takes no memory.
+    /// The number of a name, or None exactly where it isn't there.
     pub fn refer(&self, name: &str) -> Option<u32>
         ensures { result ≡ place_of self.now name.now }
     {
@@ -89,7 +110,7 @@ impl Scope {
         Some(place as u32)
     }
 
-    /// The name of this number, which is below the count, as it was first spelled. It takes no memory.
+    /// The name of this number, which is below the count, as it was first spelled.
     pub fn name(&self, n: u32) -> &str
         requires { n < length self.now.names }
         ensures { slice_get self.now.names n ≡ Some result.now }
@@ -97,19 +118,29 @@ impl Scope {
         self.names[n as usize].as_str()
     }
 
-    /// How many names there are, no more than the limit. It takes no memory.
+    /// The numbers of the names that `which` introduced, in order, each below the count.
+    pub fn asked(&self) -> &[u32]
+        ensures asked { result.now ≡ self.now.asked }
+        ensures order { Ascend 0 result.now (length self.now.names) }
+    {
+        self.asked.as_slice()
+    }
+
+    /// How many names there are, no more than the limit. The scope is that of so many names.
     pub fn count(&self) -> u32
         ensures count { result ≡ length self.now.names }
         ensures few { result ≤ self.now.limit }
+        ensures whole { first_names self.now result ≡ self.now }
     {
         self.names.len() as u32
     }
 
-    /// Keeps the first `n` names. It takes no memory.
+    /// Keeps the first `n` names, and of the noted numbers those below `n`.
     pub fn truncate(&mut self, n: u32)
         ensures { self.new ≡ first_names self.old n }
     {
         self.names.truncate(n as usize);
+        self.asked.retain(|noted| *noted < n);
     }
 }
 

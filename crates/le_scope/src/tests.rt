@@ -1,4 +1,5 @@
-use crate::{Intro, PhraseForm, Scope, phrase_name, shape};
+use crate::phrase::word_form;
+use crate::{Intro, ListPart, PhraseForm, Scope, list_parts, phrase_name, shape};
 use le_base::Span;
 use le_layout::scan;
 use std::alloc::{AllocError, Global};
@@ -27,13 +28,14 @@ fn told(alloc: Global, text: &str) -> Result<String, AllocError> {
         Some(PhraseForm::The) => "the",
         Some(PhraseForm::Which) => "which",
         Some(PhraseForm::Constant) => "constant",
+        Some(PhraseForm::List) => "list",
         Some(_) => "other",
         None => "none",
     };
     format!(in alloc; "{form}: {name}")
 }
 
-const PHRASES: [(&str, &str); 39] = [
+const PHRASES: [(&str, &str); 54] = [
     ("", "none: "),
     ("\"of the: 50%\"", "other: of the: 50%"),
     ("\"a\" \"b\"", "none: a b"),
@@ -73,6 +75,8 @@ const PHRASES: [(&str, &str); 39] = [
     ),
     ("it is the Case that", "none: it is the Case that"),
     ("it is the case", "constant: it is the case"),
+    ("it is not the case", "constant: it is not the case"),
+    ("--5", "constant: --5"),
     ("a: b", "none: a : b"),
     (
         "b c d e f g h i j k l m",
@@ -82,6 +86,22 @@ const PHRASES: [(&str, &str); 39] = [
         "b c d e f g h i j k l m n",
         "none: b c d e f g h i j k l m n",
     ),
+    ("[]", "list: [ ]"),
+    ("[1 | x]", "list: [ 1 | x ]"),
+    (
+        "[[a car], \"of\", [] | [b, 2024-01-01]]",
+        "list: [ [ a car ] , of , [ ] | [ b , 2024-01-01 ] ]",
+    ),
+    ("[b] c", "none: [ b ] c"),
+    ("[", "none: ["),
+    ("[b,", "none: [ b ,"),
+    ("[b, ]", "none: [ b , ]"),
+    ("[, b]", "none: [ , b ]"),
+    ("[b | c, d]", "none: [ b | c , d ]"),
+    ("[b | c | d]", "none: [ b | c | d ]"),
+    ("[ | b]", "none: [ | b ]"),
+    ("[every car]", "none: [ every car ]"),
+    ("[b c [d]]", "none: [ b c [ d ] ]"),
 ];
 
 #[test]
@@ -90,6 +110,88 @@ fn forms_of_phrases(rt: HostRuntime) -> Result<(), Fail> {
     for (text, expected) in PHRASES {
         let found = told(alloc, text)?;
         assert_eq!(rt; found.as_str(), expected);
+    }
+    Ok(())
+}
+
+// The symbols of the term of the list that a text is.
+fn symbols(alloc: Global, text: &str) -> Result<String, AllocError> {
+    let mut told = String::new(alloc);
+    if text.len() > 1000 {
+        return Ok(told);
+    }
+    let Ok(layout) = scan(alloc, text.as_bytes()) else {
+        return Ok(told);
+    };
+    let to = layout.tokens.as_slice().len();
+    if to > 1000 {
+        return Ok(told);
+    }
+    let span = Span {
+        from: 0,
+        to: to as u32,
+    };
+    let Some(PhraseForm::List) = shape(alloc, &layout, span)? else {
+        return Ok(told);
+    };
+    for part in list_parts(alloc, &layout, span)?.as_slice() {
+        match part {
+            ListPart::Cell => told.push_str("cell ")?,
+            ListPart::End => told.push_str("end ")?,
+            ListPart::Item(item) => {
+                let name = phrase_name(alloc, &layout, *item)?;
+                told.push_str(name.as_str())?;
+                told.push_str(" ")?;
+            }
+        }
+    }
+    Ok(told)
+}
+
+const LISTS: [(&str, &str); 6] = [
+    ("[]", "end "),
+    ("[b]", "cell b end "),
+    ("[b, c d | e]", "cell b cell c d e "),
+    ("[[b] | [c]]", "cell cell b end cell c end "),
+    (
+        "[[], [b | []], the x]",
+        "cell end cell cell b end cell the x end ",
+    ),
+    ("[b | c, d]", ""),
+];
+
+#[test]
+fn symbols_of_lists(rt: HostRuntime) -> Result<(), Fail> {
+    let alloc = rt.alloc();
+    for (text, expected) in LISTS {
+        let found = symbols(alloc, text)?;
+        assert_eq!(rt; found.as_str(), expected);
+    }
+    let mut deep = String::new(alloc);
+    for _ in 0..100 {
+        deep.push_str("[")?;
+    }
+    for _ in 0..100 {
+        deep.push_str("]")?;
+    }
+    let found = symbols(alloc, deep.as_str())?;
+    assert_eq!(rt; found.as_str().len(), 99 * 5 + 4 + 99 * 4);
+    Ok(())
+}
+
+const WORDS: [(&str, PhraseForm); 6] = [
+    ("-05", PhraseForm::Number(-5)),
+    ("-0", PhraseForm::Number(0)),
+    ("1970-01-02", PhraseForm::Day(1)),
+    ("1969-12-31", PhraseForm::Day(-1)),
+    ("2024-01-01x", PhraseForm::Constant),
+    ("--5", PhraseForm::Constant),
+];
+
+#[test]
+fn forms_of_words(rt: HostRuntime) -> Result<(), Fail> {
+    for (word, expected) in WORDS {
+        assert!(rt; word_form(word) == expected);
     }
     Ok(())
 }
@@ -108,13 +210,19 @@ fn names_in_a_scope(rt: HostRuntime) -> Result<(), Fail> {
     let alloc = rt.alloc();
     let mut scope = Scope::with_limit(alloc, 2);
     for (name, expected) in INTRODUCED {
-        let found = scope.introduce(name)?;
+        let found = if name == "big car" {
+            scope.ask(name)?
+        } else {
+            scope.introduce(name)?
+        };
         assert!(rt; found == expected);
     }
     assert_eq!(rt; scope.count(), 2);
     assert!(rt; scope.refer("CAR") == Some(0) && scope.refer("Big Car") == Some(1));
     assert!(rt; scope.refer("cars").is_none());
+    assert!(rt; scope.asked() == [1].as_slice());
     scope.truncate(1);
+    assert!(rt; scope.asked().is_empty());
     assert!(rt; scope.refer("big car").is_none());
     assert_eq!(rt; scope.count(), 1);
     if scope.count() == 1 {

@@ -1,5 +1,6 @@
 pub mod Among
 pub mod Bindings
+pub mod Composing
 pub mod Covers
 pub mod Examples
 pub mod Induction

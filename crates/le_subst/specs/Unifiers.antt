@@ -25,6 +25,16 @@ abbrev pub mapped : Bindings → ℕ → Tree → Bindings
 mapped [] v tree = (v, tree) ∷ []
 mapped (binding ∷ bindings) v tree = if v == binding.0 then (binding.0, tree) ∷ bindings else binding ∷ mapped bindings v tree
 
+-- the pairs of a map with their terms under another one
+abbrev pub images_by : Bindings → Bindings → Bindings
+images_by bindings [] = []
+images_by bindings (binding ∷ first) = (binding.0, apply bindings binding.1) ∷ images_by bindings first
+
+-- what pairs have for a variable, and a map where they have nothing
+abbrev pub overridden : Bindings → Bindings → ℕ → Tree
+overridden bindings [] v = value_at bindings v
+overridden bindings (image ∷ images) v = if v == image.0 then image.1 else overridden bindings images v
+
 -- a substitution, as a function from variables, makes the sides of each equation equal
 abbrev pub Unifies : (ℕ → Tree) → List Equation → Type 0
 Unifies by [] = Unit {0}

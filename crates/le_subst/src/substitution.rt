@@ -1,5 +1,5 @@
-ghost use Rattle.std.specs.Prelude.{◌≡◌, ◌++◌, [], Some, IfOk, OnOk};
-ghost use Rattle.le_subst.specs.Unifiers.{apply};
+ghost use Rattle.std.specs.Prelude.{◌≡◌, ◌++◌, ℕ, [], Some, IfOk, OnOk};
+ghost use Rattle.le_subst.specs.Unifiers.{apply, value_at, images_by, overridden};
 ghost use Rattle.le_subst.specs.Symbols.{AreSymbols, IsSymbol, images, symbol_image, map_image};
 ghost use Rattle.le_subst.specs.Steps.{bound_after};
 
@@ -28,6 +28,26 @@ impl Model for Subst {
 }
 
 impl Subst {
+    /// The substitution that replaces nothing.
+    pub fn empty(alloc: Global) -> Self
+        ensures { result ≡ [] }
+    {
+        Subst {
+            map: IndexMap::new(alloc),
+        }
+    }
+
+    /// Makes it the composition with another substitution that goes before it: afterwards a variable has
+    /// what this one made of the term that the other one has for it. It takes time in proportion to the
+    /// other one. After out of memory it may be a part of that.
+    pub fn put_after(&mut self, alloc: Global, first: &Subst) -> Result<(), AllocError>
+        ensures { OnOk result ((v : ℕ) → value_at self.new v ≡ apply self.old (value_at first.now v)) }
+    {
+        let images = images_by(alloc, &self.map, &first.map)?;
+        override_by(&mut self.map, images)?;
+        Ok(())
+    }
+
     /// The term with each variable of the map replaced by its term, all at once. The error is want of
     /// memory.
     pub fn apply(&self, alloc: Global, term: &Term) -> Result<Term, AllocError>
@@ -35,6 +55,26 @@ impl Subst {
     {
         applied(alloc, &self.map, term)
     }
+
+    /// The pairs of the map, in their order.
+    pub fn into_pairs(self, alloc: Global) -> Result<Vec<(u32, Term)>, AllocError>
+        ensures { IfOk result (λ pairs. pairs.items ≡ self) }
+    {
+        pairs_of(alloc, self.map)
+    }
+}
+
+// The pairs of a map, in their order.
+fn pairs_of(alloc: Global, map: IndexMap<u32, Term>) -> Result<Vec<(u32, Term)>, AllocError>
+    ensures { IfOk result (λ pairs. pairs.items ≡ map.entries) }
+{
+    let mut left = map;
+    let mut pairs = Vec::new(alloc);
+    while let Some(pair) = left.pop() {
+        pairs.push(pair)?;
+    }
+    pairs.reverse();
+    Ok(pairs)
 }
 
 // The substitution that some bindings make, the first of which was made first: each variable's term is
@@ -48,6 +88,34 @@ pub(crate) fn closed(alloc: Global, mut bindings: Vec<(u32, Term)>) -> Result<Su
         map.insert(var, image)?;
     }
     Ok(Subst { map })
+}
+
+// The pairs of a map with their terms under another one.
+fn images_by(
+    alloc: Global,
+    map: &IndexMap<u32, Term>,
+    first: &IndexMap<u32, Term>,
+) -> Result<Vec<(u32, Term)>, AllocError>
+    ensures { IfOk result (λ images. images.items ≡ images_by map.now.entries first.now.entries) }
+{
+    let mut images = Vec::new(alloc);
+    for (var, term) in first.iter() {
+        images.push((*var, applied(alloc, map, term)?))?;
+    }
+    Ok(images)
+}
+
+// Puts pairs into a map, the first of which counts where a variable has several.
+fn override_by(
+    map: &mut IndexMap<u32, Term>,
+    mut images: Vec<(u32, Term)>,
+) -> Result<(), AllocError>
+    ensures { OnOk result ((v : ℕ) → value_at map.new.entries v ≡ overridden map.old.entries images.items v) }
+{
+    while let Some((var, image)) = images.pop() {
+        map.insert(var, image)?;
+    }
+    Ok(())
 }
 
 // The term with each variable of the map replaced by its term.

@@ -1,6 +1,10 @@
-use crate::{Subst, solve};
+ghost use Rattle.std.specs.Prelude.{◌≡◌, ◌<◌, ◌+◌};
+
+use crate::{Steps, Subst, solve, solve_counted};
 use le_terms::{Sym, Term};
 use std::alloc::Global;
+use std::marker::Brand;
+use std::sync::ledger::{Blank, Ledger};
 use std::test::Fail;
 
 // The term of some letters in preorder: `:` is a cell, `.` the empty list, a capital letter a variable,
@@ -47,6 +51,32 @@ fn gives(alloc: Global, subst: &Option<Subst>, from: &str, to: &str) -> Result<b
     }
 }
 
+// Whether two counted steps, the second one on what has no unifier, answer as `solve` does.
+fn counted<L: Ledger>(alloc: Global, blank: Blank) -> Result<bool, Fail>
+    requires name { blank.name ≡ L.name }
+    requires parts { blank.parts ≡ L.parts }
+    requires some { 0 < blank.parts }
+{
+    let mut steps = Steps::<L>::begin(blank);
+    let found = solve_counted(alloc, &[(term(alloc, "A")?, term(alloc, "7")?)], &mut steps)?;
+    let none = solve_counted(alloc, &[(term(alloc, "a")?, term(alloc, "7")?)], &mut steps)?;
+    Ok(none.is_none() && gives(alloc, &found, ":A:B.", ":7:B.")?)
+}
+
+// Whether a substitution after another one has what both have one after the other.
+fn composed(alloc: Global) -> Result<bool, Fail> {
+    let Some(first) = solve(alloc, &[(term(alloc, "A")?, term(alloc, ":B:C.")?)])? else {
+        return Ok(false);
+    };
+    let Some(mut second) = solve(alloc, &[(term(alloc, "B")?, term(alloc, "7")?)])? else {
+        return Ok(false);
+    };
+    second.put_after(alloc, &first)?;
+    let right = gives(alloc, &Some(second), ":A:B:C.", "::7:C.:7:C.")?;
+    let none = Subst::empty(alloc).into_pairs(alloc)?;
+    Ok(right && first.into_pairs(alloc)?.len() == 1 && none.is_empty())
+}
+
 #[test]
 fn equations_are_solved(rt: HostRuntime) -> Result<(), Fail> {
     let alloc = rt.alloc();
@@ -68,6 +98,8 @@ fn equations_are_solved(rt: HostRuntime) -> Result<(), Fail> {
     }
     let none = solve(alloc, &[])?;
     assert!(rt; gives(alloc, &none, ":A:B.", ":A:B.")?);
+    assert!(rt; counted::<Brand>(alloc, Blank::new(1))?);
+    assert!(rt; composed(alloc)?);
     Ok(())
 }
 

@@ -34,6 +34,13 @@ pub fn day_of(word: &str) -> Option<i32>
     day_of_date(year, month, day)
 }
 
+/// Whether a word has the form of a date: four digits, `-`, two digits, `-`, two digits.
+pub fn has_date_form(word: &str) -> bool
+    ensures { result ≡ is_date_word word.now }
+{
+    is_date_word(word.as_bytes())
+}
+
 /// Whether the bytes are four digits, `-`, two digits, `-`, two digits.
 fn is_date_word(bytes: &[u8]) -> bool
     ensures { result ≡ is_date_word bytes.now }

@@ -8,6 +8,6 @@ mod number;
 #[cfg(test)]
 mod tests;
 
-pub use day::{add_days, day_of, days_between, write_day};
+pub use day::{add_days, day_of, days_between, has_date_form, write_day};
 pub use month::add_months;
 pub use number::{number_of, write_number};

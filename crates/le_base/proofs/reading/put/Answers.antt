@@ -1,11 +1,11 @@
-use Rattle.std.proofs.Common.{arith}
+use Rattle.std.proofs.Common.{◌∙◌, rules, arith}
 use Rattle.std.proofs.KnownBytes.{Appends-kept}
 use Rattle.le_base.proofs.OutsideLemmas.{written_more, written_part}
 use Rattle.le_base.proofs.reading.put.Goals as goal
 
 pub loop-rest-preserved : goal.loop-rest-preserved
 loop-rest-preserved g c =
-    (written_more _ _ _ _ _ _ _ (omega arith) c.loop-rest.invariant.0 c.in-Bytes.ensures.content.2, omega (arith, c.in-Bytes.ensures.count))
+    (written_more _ _ _ _ _ _ _ (omega arith) c.loop-rest.invariant.0 c.in-Bytes.ensures.content.2, c.in-Bytes.ensures.kept (λ e. search rules) ∙ c.loop-rest.invariant.1)
 
 pub returns-in-Failed-clause-part : goal.returns-in-Failed-clause-part
 returns-in-Failed-clause-part g c =

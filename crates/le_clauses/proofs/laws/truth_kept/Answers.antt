@@ -1,6 +1,6 @@
-use Rattle.le_clauses.specs.Rules.{sentences_of}
-use Rattle.le_clauses.proofs.TruthLemmas.{literals_alike}
+use Rattle.std.proofs.Common.{refl, inl, ◌∷◌}
+use Rattle.le_clauses.proofs.TruthKept.{rule_kept}
 use Rattle.le_clauses.proofs.laws.truth_kept.Goals as goal
 
 pub returns : goal.returns
-returns c = λ users names scope query layout conds. literals_alike users names scope query layout (sentences_of conds)
+returns c = λ first others set base pred line head condition by plain low. rule_kept (first ∷ others) first (inl refl) set base condition plain pred low line head by

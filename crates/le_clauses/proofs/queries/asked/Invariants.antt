@@ -1,7 +1,7 @@
-use Rattle.std.proofs.Common.{◌≡◌, ◌++◌, drop}
-use Rattle.le_clauses.specs.Pieces.{asked_of}
+use Rattle.std.proofs.Common.{◌≡◌, take}
+use Rattle.le_clauses.specs.Pieces.{asked_by}
 use Rattle.le_clauses.proofs.queries.asked.Given as goal
 
--- the variables so far with those of what is left are all
-abbrev pub invariant-loop-span : goal.invariant-loop-span
-invariant-loop-span l = l.asked.items ++ asked_of l.templates l.scope l.layout (drop l.span-index l.spans) ≡ asked_of l.templates l.scope l.layout l.spans
+-- those so far are those of the numbers so far
+abbrev pub invariant-loop-var : goal.invariant-loop-var
+invariant-loop-var l = l.asked.items ≡ asked_by l.scope.names l.vars (take l.var-index l.wanted)

@@ -2,7 +2,7 @@ use Rattle.std.proofs.Common.{◌≡◌, ◌≤◌}
 use Rattle.le_conds.specs.Openers.{line_begin}
 use Rattle.le_conds.proofs.openers.indent.Given as goal
 
--- the line's first token isn't behind this one
+-- the line's first token is no later than this one
 abbrev pub invariant-loop-begin : goal.invariant-loop-begin
 invariant-loop-begin l = record {
   inside : l.begin ≤ l.fn.k;

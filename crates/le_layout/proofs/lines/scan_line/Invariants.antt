@@ -1,7 +1,7 @@
 use Rattle.std.proofs.Common.{◌≡◌, ◌+◌, ◌-◌, ◌≤◌, ◌++◌, length, drop, vec_len}
 use Rattle.le_layout.specs.Places.{place_behind}
 use Rattle.le_layout.specs.Pieces.{pieces_of}
-use Rattle.le_layout.specs.Room.{HasRoom}
+use Rattle.le_layout.specs.Room.{HasRoom, StandsIn}
 use Rattle.le_layout.specs.Faults.{faults_at}
 use Rattle.le_layout.specs.Layout.{tokens_at}
 use Rattle.le_layout.proofs.lines.scan_line.Given as goal
@@ -11,6 +11,7 @@ abbrev pub invariant-loop-at : goal.invariant-loop-at
 invariant-loop-at l = record {
   inside : l.at ≤ length l.line;
   room : HasRoom l.place (length l.line - l.at);
+  lie : StandsIn l.text l.place (drop l.at l.line);
   place : place_behind l.place (drop l.at l.line) ≡ place_behind l.fn.from l.line;
   faults : faults_at l.place (pieces_of (drop l.at l.line)) ≡ faults_at l.fn.from (pieces_of l.line);
   tokens : l.tokens.items ++ tokens_at l.place (pieces_of (drop l.at l.line)) ≡ l.fn.tokens.items ++ tokens_at l.fn.from (pieces_of l.line);

@@ -1,9 +1,15 @@
 use Rattle.std.proofs.Common.{◌≡◌, ◌+◌, ◌-◌, ◌++◌, length, take, drop, sym, ap, ap₂, ◌∙◌, arith}
 use Rattle.std.proofs.lemmas.Result.{err_from_is_err_and}
-use Rattle.le_layout.specs.Faults.{unless_faulty}
+use Rattle.le_layout.specs.Faults.{faults_at, unless_faulty}
+use Rattle.le_layout.specs.Places.{place_behind}
+use Rattle.le_layout.specs.Pieces.{pieces_of}
 use Rattle.le_layout.specs.Layout.{line_of}
-use Rattle.le_layout.proofs.RowLemmas.{row_of, faults_on, room_on_row, tokens_on, lines_on, fault_on, faults_end, tokens_end, lines_end}
+use Rattle.le_layout.proofs.RowLemmas.{row_of, no_faults, faults_on, room_on_row, tokens_on, lines_on, fault_on, faults_end, tokens_end, lines_end}
+use Rattle.le_layout.proofs.StandLemmas.{stands_taken, stands_on}
 use Rattle.le_layout.proofs.lines.scan_lines.Goals as goal
+
+pub scan_line-requires-clause-lie : goal.scan_line-requires-clause-lie
+scan_line-requires-clause-lie c = stands_taken c.args.text.now c.args.chars.now c.loop-at.at c.line_len.result c.loop-at.place c.loop-at.invariant.lie
 
 pub returns-in_err-place : goal.returns-in_err-place
 returns-in_err-place c =
@@ -33,6 +39,7 @@ loop-at-preserved c =
     record {
       inside = row.within;
       room = room_on_row chars line at n place behind row done.place known.room;
+      lie = stands_on c.args.text.now chars at n place behind (sym (no_faults (place_behind place line) behind (faults_at place (pieces_of line)) done.place).0) known.lie;
       count = omega (arith, done.count, known.count, row.wide);
       faults = faults_on chars line at n place behind _ row done.place known.faults;
       tokens = tokens_on chars line at n place behind tokens pushed _ row done.place done.pushed known.tokens;

@@ -3,8 +3,8 @@ use Rattle.std.specs.List.{AllByRecursion}
 use Rattle.le_machine.proofs.Built.{AreBuilt, AreBuiltClauses, program-built}
 use Rattle.le_machine.proofs.tests.program.Goals as goal
 
-pub returns-clause-program : goal.returns-clause-program
-returns-clause-program c =
+pub returns : goal.returns
+returns c =
     let few : length c.in_ok-clauses.field-0.items ≤ 30 = omega (arith, c.in_ok-clauses.ensures.few) in
     let clauses : AreBuiltClauses c.in_ok-clauses.field-0.items 30 = record {
       clauses_ = c.in_ok-clauses.ensures.clauses;
@@ -17,8 +17,11 @@ returns-clause-program c =
       variables = c.in_ok-literals.ensures.variables;
       few = le_refl (length c.in_ok-literals.field-0.items);
     } in
-    program-built _ 30 (length c.in_ok-literals.field-0.items) (omega arith)
-    (subst (λ cs. AreBuiltClauses cs 30) (sym c.from_vec.ensures) clauses)
-    (subst (λ ls. AreBuilt ls (length c.in_ok-literals.field-0.items)) (sym c.from_vec-2.ensures) query)
-    (subst (AllByRecursion (λ one. one.var < 4)) (sym c.from_vec-3.ensures) c.in_ok-asked.ensures)
-    refl refl (c.from_vec-4.ensures ∙ c.new.ensures.items) refl
+    record {
+      program =
+          program-built _ 30 (length c.in_ok-literals.field-0.items) (omega arith)
+          (subst (λ cs. AreBuiltClauses cs 30) (sym c.from_vec.ensures) clauses)
+          (subst (λ ls. AreBuilt ls (length c.in_ok-literals.field-0.items)) (sym c.from_vec-2.ensures) query)
+          (subst (AllByRecursion (λ one. one.var < 4)) (sym c.from_vec-3.ensures) c.in_ok-asked.ensures)
+          refl refl (c.from_vec-4.ensures ∙ c.new.ensures.items) refl;
+    }

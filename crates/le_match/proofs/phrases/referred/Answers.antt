@@ -19,7 +19,7 @@ returns-in-Some-clause-exact c =
     let name = c.as_str.result.now in
     let same = phrase_name l (drop 1 (slice_range l.tokens from to)) in
     let named : name ≡ same =
-    c.as_str.ensures ∙ c.in_ok-name.ensures ∙ ap (λ s. phrase_name l (tokens_of l s)) c.behind_article.ensures ∙ ap (phrase_name l) (sym (behind_is l from to c.requires.tokens.some)) in
+    c.as_str.ensures ∙ c.in_ok-name.ensures ∙ ap (λ s. phrase_name l (tokens_of l s)) c.after_article.ensures ∙ ap (phrase_name l) (sym (behind_is l from to c.requires.tokens.some)) in
     there_is c.args.templates.now c.args.names.now c.args.scope.now (first_of (slice_range l.tokens from to)) (text_of l (last_of (slice_range l.tokens from to))) name same c.in-Some.n c.in_ok-leaf.field-0 named
     (sym c.refer.ensures ∙ c.in-Some.is) c.in_ok-leaf.ensures.term
 
@@ -31,7 +31,7 @@ returns-then-ends_slot-clause-exact c =
     let name = c.as_str.result.now in
     let same = phrase_name l (drop 1 (slice_range l.tokens from to)) in
     let named : name ≡ same =
-    c.as_str.ensures ∙ c.in_ok-name.ensures ∙ ap (λ s. phrase_name l (tokens_of l s)) c.behind_article.ensures ∙ ap (phrase_name l) (sym (behind_is l from to c.requires.tokens.some)) in
+    c.as_str.ensures ∙ c.in_ok-name.ensures ∙ ap (λ s. phrase_name l (tokens_of l s)) c.after_article.ensures ∙ ap (phrase_name l) (sym (behind_is l from to c.requires.tokens.some)) in
     let first = first_of (slice_range l.tokens from to) in
     let last = text_of l (last_of (slice_range l.tokens from to)) in
     let word : c.word.result.now ≡ last = c.word.ensures ∙ ap (text_of l) (sym (last_is l from to c.requires.tokens.some c.requires.tokens.within)) in
@@ -48,7 +48,7 @@ returns-clause-exact c =
     let name = c.as_str.result.now in
     let same = phrase_name l (drop 1 (slice_range l.tokens from to)) in
     let named : name ≡ same =
-    c.as_str.ensures ∙ c.in_ok-name.ensures ∙ ap (λ s. phrase_name l (tokens_of l s)) c.behind_article.ensures ∙ ap (phrase_name l) (sym (behind_is l from to c.requires.tokens.some)) in
+    c.as_str.ensures ∙ c.in_ok-name.ensures ∙ ap (λ s. phrase_name l (tokens_of l s)) c.after_article.ensures ∙ ap (phrase_name l) (sym (behind_is l from to c.requires.tokens.some)) in
     let first = first_of (slice_range l.tokens from to) in
     let last = text_of l (last_of (slice_range l.tokens from to)) in
     let word : c.word.result.now ≡ last = c.word.ensures ∙ ap (text_of l) (sym (last_is l from to c.requires.tokens.some c.requires.tokens.within)) in

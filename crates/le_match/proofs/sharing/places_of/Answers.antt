@@ -1,12 +1,12 @@
-use Rattle.std.proofs.Common.{◌≡◌, ℕ, ◌+◌, ◌<◌, ◌≤◌, [], ◌∷◌, ◌++◌, length, map, drop, get_or, slice_range, sym, ap, ◌∙◌, subst, arith, length-append, refl}
+use Rattle.std.proofs.Common.{◌≡◌, ℕ, ◌+◌, ◌<◌, ◌≤◌, [], ◌∷◌, ◌++◌, length, map, drop, get_or, slice_range, sym, ap, ◌∙◌, subst, arith, refl}
 use Rattle.std.specs.List.{All}
 use Rattle.std.proofs.lemmas.List.Elements.{All-push}
 use Rattle.le_match.specs.declared.sharing.Place.{Place}
 use Rattle.le_match.specs.declared.sharing.Place.TheVariants as place
 use Rattle.le_match.specs.Shares.{Fits, shares}
-use Rattle.le_match.specs.Walks.{IsPlace, share_of}
+use Rattle.le_match.specs.Walks.{IsPlace, share_of, total_size}
 use Rattle.le_match.proofs.CutLemmas.{parts_more}
-use Rattle.le_match.proofs.FitsLemmas.{fits_word, fits_slot, shares_word, shares_slot, shared_more}
+use Rattle.le_match.proofs.FitsLemmas.{total_size_push, fits_word, fits_slot, shares_word, shares_slot, shared_more}
 use Rattle.le_match.proofs.sharing.places_of.Goals as goal
 use Rattle.le_match.proofs.sharing.places_of.Goals.{in-Word+in_ok-push-in-Word, in-Slot+in_ok-push-in-Slot}
 
@@ -32,7 +32,7 @@ loop-part-preserved c =
           let low : at < to = f.0 in
           let x : Place = place.Word at in
           let pushed : c.match-part.found.items ≡ found ++ x ∷ [] = ap (λ v. v.items) w.found-is ∙ w.in_ok-push-in-Word.ensures.items in
-          let size = ap length pushed ∙ length-append found (x ∷ []) in
+          let size = ap total_size pushed ∙ total_size_push found x in
           let here : at < length l.tokens = omega arith in
           let P : ℕ → Type 0 = λ k. Fits l n rest (slice_range l.tokens k to) (drop j ks) in
           let Q : ℕ → Type 0 = λ k. Fits l n rest (slice_range l.tokens c.match-part.at to) (drop k ks) in
@@ -55,7 +55,7 @@ loop-part-preserved c =
           let within : at + (k + (n + n)) ≤ to = f.inside in
           let x : Place = place.Slot (record { from = at + n; to = at + n + k }) in
           let pushed : c.match-part.found.items ≡ found ++ x ∷ [] = ap (λ v. v.items) w.found-is ∙ w.in_ok-push-in-Slot.ensures.items in
-          let size = ap length pushed ∙ length-append found (x ∷ []) in
+          let size = ap total_size pushed ∙ total_size_push found x in
           let next : c.match-part.at ≡ at + (k + (n + n)) = w.at-is ∙ (let g : at + n + k + n ≡ at + (k + (n + n)) = omega arith in g) in
           let P : ℕ → Type 0 = λ m. Fits l n rest (slice_range l.tokens m to) (drop (j + 1) ks) in
           let Q : ℕ → Type 0 = λ m. Fits l n rest (slice_range l.tokens c.match-part.at to) (drop m ks) in

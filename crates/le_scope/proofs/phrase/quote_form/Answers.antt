@@ -3,7 +3,7 @@ use Rattle.le_layout.specs.Words.{tokens_of}
 use Rattle.le_scope.proofs.TokenLemmas.{quote_other, length_span}
 use Rattle.le_scope.proofs.phrase.quote_form.Goals as goal
 
-pub returns-then-tokens-ne1 : goal.returns-then-tokens-ne1
-returns-then-tokens-ne1 c =
+pub returns-then-tokens-ne1-clause-form : goal.returns-then-tokens-ne1-clause-form
+returns-then-tokens-ne1-clause-form c =
     let count : length (tokens_of c.args.layout.now c.args.tokens) ≡ c.args.tokens.to - c.args.tokens.from = length_span c.args.layout.now c.args.tokens.from c.args.tokens.to c.requires.tokens.within in
     sym (quote_other (tokens_of c.args.layout.now c.args.tokens) (λ (one : length (tokens_of c.args.layout.now c.args.tokens) ≡ 1). c.if-tokens-ne1.true (sym count ∙ one)))

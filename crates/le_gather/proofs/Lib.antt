@@ -1,0 +1,4 @@
+pub mod Examples
+mod Meaning
+mod Numbers
+pub mod Variants

@@ -1,0 +1,64 @@
+-- The laws of the search and of the replay, for the functions whose contracts they are.
+use Rattle.std.specs.Prelude.{◌≡◌, ℕ, List, [], ◌∷◌, ◌++◌, map, Some}
+use Rattle.std.specs.List.{AllByRecursion}
+use Rattle.le_terms.specs.Tree.{Tree}
+use Rattle.le_terms.specs.Variables.{canonical_of}
+use Rattle.le_terms.specs.Program.{IsProgram}
+use Rattle.le_terms.specs.declared.program.Literal.{Literal}
+use Rattle.le_terms.specs.declared.program.Program.{Program}
+use Rattle.le_proofs.specs.declared.node.Node.{Node}
+use Rattle.le_proofs.specs.declared.next.Next.{Next}
+use Rattle.le_proofs.specs.declared.next.Next.TheVariants.{Answer, Done, Floundered, OutOfRange, Spent}
+use Rattle.le_proofs.specs.Goals.{Goal, selected, put_in_place, asked_terms}
+use Rattle.le_proofs.specs.Proofs.{WholeTree}
+use Rattle.le_proofs.specs.Derivations.{certificate_of}
+use Rattle.le_proofs.specs.Lloyd.{Admits, Whole}
+use Rattle.le_proofs.specs.Replay.{accepted, verdict_of}
+use Rattle.le_proofs.specs.Search.{grow_at, tree, search_of, answers_of, end_of}
+
+-- the replay accepts a derivation with values exactly where it is admitted with them
+abbrev pub AcceptsExactly : Type 0
+AcceptsExactly =
+    (program : Program) (nodes : List Node) (values : List Tree) → IsProgram program
+    → (Admits program nodes values → verdict_of program nodes ≡ accepted values) × (verdict_of program nodes ≡ accepted values → Admits program nodes values)
+
+-- the derivation of each answer of a search is accepted with the answer's values
+abbrev pub AnswersAccepted : Type 0
+AnswersAccepted =
+    (program : Program) (budget : ℕ) → IsProgram program
+    → AllByRecursion (λ leaf. verdict_of program (certificate_of leaf).nodes ≡ accepted (certificate_of leaf).values) (answers_of program budget)
+
+-- The tree of a goal is that of its selected literal, with the trees of what becomes of the goal below it: the fuel of its definition is always enough.
+abbrev pub TreeUnfolds : Type 0
+TreeUnfolds = (program : Program) (goal : Goal) (left : ℕ) → tree program goal left ≡ grow_at (tree program) program goal goal.literals left
+
+-- In version 1 the selected literal is the leftmost, and what comes in its place stands before the rest.
+abbrev pub SelectsLeftmost : Type 0
+SelectsLeftmost =
+    (literal : Literal) (literals new : List Literal)
+    → (selected 1 (literal ∷ literals) ≡ Some (record { before = []; chosen = literal; behind = literals }))
+    × (put_in_place (record { before = []; chosen = literal; behind = literals }) new ≡ new ++ literals)
+
+-- Each answer of a search is admitted with the derivation of its leaf and with the leaf's terms, their variables numbered from 1.
+abbrev pub AnswersAdmitted : Type 0
+AnswersAdmitted =
+    (program : Program) (budget : ℕ) → IsProgram program
+    → AllByRecursion (λ leaf. Admits program (certificate_of leaf).nodes (canonical_of leaf.terms)) (answers_of program budget)
+
+-- Where a search is done, the query has a whole tree of some rank, and the answers are its leaves.
+abbrev pub DoneIsWhole : Type 0
+DoneIsWhole =
+    (program : Program) (budget : ℕ) → IsProgram program → end_of program budget ≡ Done
+    → (rank : ℕ) × (t : WholeTree) × Whole rank program program.query (asked_terms program.asked) t (map (λ leaf. leaf.terms) (answers_of program budget))
+
+-- a visit may end so with so many selections left: no answer is an end, and the budget is spent only where none is left
+abbrev pub IsEnd : Next → ℕ → Type 0
+IsEnd Answer left = ⊥
+IsEnd Done left = Unit {0}
+IsEnd (Floundered line) left = Unit {0}
+IsEnd (OutOfRange line) left = Unit {0}
+IsEnd Spent left = left ≡ 0
+
+-- A search ends with its budget spent only where no selection is left, and never with an answer.
+abbrev pub SearchesEnd : Type 0
+SearchesEnd = (program : Program) (budget : ℕ) → IsEnd (end_of program budget) (search_of program budget).left
