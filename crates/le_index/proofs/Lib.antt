@@ -1,0 +1,3 @@
+mod KeyLaw
+mod Listings
+mod Searching

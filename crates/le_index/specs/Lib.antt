@@ -1,0 +1,4 @@
+pub mod Candidates
+pub mod Keys
+pub mod Laws
+pub mod Listing

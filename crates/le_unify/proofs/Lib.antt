@@ -1,0 +1,4 @@
+mod General
+pub mod Work
+pub mod Pairs
+pub mod Occurring
