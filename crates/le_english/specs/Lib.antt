@@ -1,0 +1,9 @@
+pub mod Atoms
+pub mod Declarations
+pub mod Explanations
+pub mod Lines
+pub mod Phrases
+pub mod Proofs
+pub mod Saying
+pub mod Sentences
+pub mod Walks
