@@ -1,0 +1,9 @@
+pub mod Certificates
+pub mod Exact
+pub mod Fronts
+pub mod GoingUp
+pub mod Joined
+pub mod Noting
+pub mod Places
+pub mod Renaming
+pub mod WalkLaws
