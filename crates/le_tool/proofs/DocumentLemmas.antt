@@ -7,10 +7,11 @@ use Rattle.le_base.specs.Stop.{refusal_at}
 use Rattle.le_base.specs.Outside.{ConsumesExactly, AppendsPrefix}
 use Rattle.le_layout.specs.Layout.{layout_of}
 use Rattle.le_clauses.specs.declared.whole.Whole.{Whole}
+use Rattle.le_tool.specs.declared.jobs.Command.TheVariants.{Answer}
 use Rattle.le_tool.specs.declared.jobs.Task.{Task}
 use Rattle.le_tool.specs.declared.report.Report.{Report}
 use Rattle.le_tool.specs.Job.{job_of}
-use Rattle.le_tool.specs.Report.{most_bytes, whole_of_layout, document_of, usage_text, Question, document_report, question_of, task_report, report_by, report}
+use Rattle.le_tool.specs.Report.{most_bytes, whole_of_layout, document_of, usage_text, Question, document_report, clauses_report, command_report, question_of, task_report, report_by, report}
 
 -- a document of more bytes than the most isn't read
 too_long : (bytes : List ℕ) → most_bytes < length bytes → document_of bytes ≡ Err (refusal_at TooLong 0 0)
@@ -56,15 +57,26 @@ task_whole (Some bytes) a b ws task status e h = subst (Said a b status) (task_i
 -- ---- the report of a task on a document
 
 -- the answers to a task's question on what the source holds are its report
-question_is : (words : List (List ℕ)) (task : Task) (q : Question) (found : Result Whole Refusal) (bytes : List ℕ) → q ≡ question_of words task → found ≡ document_of bytes → document_report q found ≡ task_report words task bytes
+question_is : (words : List (List ℕ)) (task : Task) (q : Question) (found : Result Whole Refusal) (bytes : List ℕ) → q ≡ question_of words task → found ≡ document_of bytes → document_report q found ≡ command_report Answer words task bytes
 question_is words task q found bytes names e = ap (λ p. document_report p found) names ∙ ap (document_report (question_of words task)) e
 
 pub question_part : (o a b : Option (List ℕ)) (words : List (List ℕ)) (task : Task) (q : Question) (found : Result Whole Refusal) → q ≡ question_of words task → IfSome o (λ bytes. found ≡ document_of bytes) →
-    AppendsPrefix a b (document_report q found).text → IfSome o (λ bytes. AppendsPrefix a b (task_report words task bytes).text)
+    AppendsPrefix a b (document_report q found).text → IfSome o (λ bytes. AppendsPrefix a b (command_report Answer words task bytes).text)
 question_part None a b words task q found names e h = tt
 question_part (Some bytes) a b words task q found names e h = subst (λ (r : Report). AppendsPrefix a b r.text) (question_is words task q found bytes names e) h
 
 pub question_whole : (o a b : Option (List ℕ)) (words : List (List ℕ)) (task : Task) (q : Question) (found : Result Whole Refusal) (status : ℕ) → q ≡ question_of words task → IfSome o (λ bytes. found ≡ document_of bytes) →
-    Said a b status (document_report q found) → IfSome o (λ bytes. Said a b status (task_report words task bytes))
+    Said a b status (document_report q found) → IfSome o (λ bytes. Said a b status (command_report Answer words task bytes))
 question_whole None a b words task q found status names e h = tt
 question_whole (Some bytes) a b words task q found status names e h = subst (Said a b status) (question_is words task q found bytes names e) h
+
+-- the clauses of what the source holds are the report
+pub clauses_part : (o a b : Option (List ℕ)) (found : Result Whole Refusal) → IfSome o (λ bytes. found ≡ document_of bytes) →
+    AppendsPrefix a b (clauses_report found).text → IfSome o (λ bytes. AppendsPrefix a b (clauses_report (document_of bytes)).text)
+clauses_part None a b found e h = tt
+clauses_part (Some bytes) a b found e h = subst (λ d. AppendsPrefix a b (clauses_report d).text) e h
+
+pub clauses_whole : (o a b : Option (List ℕ)) (found : Result Whole Refusal) (status : ℕ) → IfSome o (λ bytes. found ≡ document_of bytes) →
+    Said a b status (clauses_report found) → IfSome o (λ bytes. Said a b status (clauses_report (document_of bytes)))
+clauses_whole None a b found status e h = tt
+clauses_whole (Some bytes) a b found status e h = subst (λ d. Said a b status (clauses_report d)) e h

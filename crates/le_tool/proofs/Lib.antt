@@ -1,6 +1,5 @@
+pub mod AdmittedLemmas
 pub mod DocumentLemmas
 pub mod JobLemmas
 pub mod ReportLemmas
 pub mod SearchLemmas
-mod ValueExamples
-pub mod ValueLemmas

@@ -16,9 +16,10 @@ use Rattle.le_clauses.specs.declared.whole.Whole.{Whole}
 use Rattle.le_clauses.specs.Selection.{selected}
 use Rattle.le_proofs.specs.declared.next.Next.{Next}
 use Rattle.le_proofs.specs.declared.next.Next.TheVariants.{Answer, Done, Floundered, OutOfRange, Spent}
-use Rattle.le_proofs.specs.Search.{Leaf, answers_of, end_of, next_of}
+use Rattle.le_proofs.specs.Proofs.{Leaf}
+use Rattle.le_proofs.specs.Search.{answers_of, end_of, next_of}
 use Rattle.le_machine.specs.State.{Shown, next_answer, given_after, told, last_leaf, last_values}
-use Rattle.le_tool.specs.Report.{answer_text, answers_text, said_text, end_line, end_status, stopped_line, last_line, search_report, query_report, Question, document_report}
+use Rattle.le_tool.specs.Report.{answer_text, answers_text, said_text, end_line, end_status, stopped_line, last_line, search_report, query_report, Question, document_report, clauses_report}
 use Rattle.le_tool.specs.Statuses.{is_answer, IsDone}
 
 -- where nothing was written, a first part was
@@ -244,3 +245,8 @@ query_done whole most budget (Err refusal) = inr (inl refl)
 pub document_done : (q : Question) (found : Result Whole Refusal) → IsDone (document_report q found).status
 document_done q (Ok whole) = query_done whole q.most q.budget (selected whole q.scenario q.query)
 document_done q (Err refusal) = inr (inl refl)
+
+-- the status of a report of clauses
+pub clauses_done : (found : Result Whole Refusal) → IsDone (clauses_report found).status
+clauses_done (Ok whole) = inl refl
+clauses_done (Err refusal) = inr (inl refl)

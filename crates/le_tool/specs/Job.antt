@@ -1,10 +1,9 @@
 -- The words of the command line: this project's profile.
-use Rattle.std.specs.Prelude.{ℕ, ◌+◌, ◌<◌, ◌≤◌, ◌==◌, ◌&&◌, nat_le, if◌then◌else◌, List, [], ◌∷◌, slice_index, Option, None, Some, is_none, IfSome, codes, ℤ, pos, negsuc}
+use Rattle.std.specs.Prelude.{Bool, false, ℕ, ◌+◌, ◌<◌, ◌≤◌, ◌==◌, ◌&&◌, nat_le, if◌then◌else◌, List, [], ◌∷◌, slice_index, Option, None, Some, is_none, IfSome, codes, ℤ, pos, negsuc}
 use Rattle.std.specs.Option.{option_map, option_and_then, unwrap_or}
 use Rattle.std.specs.Str.{bytes_eq}
 use Rattle.le_values.specs.Numbers.{number_of}
-use Rattle.le_tool.specs.declared.jobs.TheConstants.{ANSWERS, BUDGET, MOST_ANSWERS}
-use Rattle.le_tool.specs.declared.jobs.Command.TheVariants.{Answer}
+use Rattle.le_tool.specs.declared.jobs.Command.TheVariants.{Answer, Clauses}
 use Rattle.le_tool.specs.declared.jobs.Options.{Options}
 use Rattle.le_tool.specs.declared.jobs.Task.{Task}
 
@@ -30,13 +29,13 @@ with_budget o n = record { query = o.query; scenario = o.scenario; budget = Some
 abbrev pub with_answers : Options → ℕ → Options
 with_answers o n = record { query = o.query; scenario = o.scenario; budget = o.budget; answers = Some n }
 
--- the options with one more: its name, its value, and the value's place among the words; none where there is no such option, it is there already, or its value isn't one
+-- the options with one more: its name, its value, and the value's place among the words; none where there is no such option, it is there already, or its value isn't one; a budget is at most 100,000, and at most 1,000 answers are asked for
 unfoldable pub with_option : Options → List ℕ → ℕ → List ℕ → Option Options
 with_option o name place value =
     if bytes_eq name (codes "--query") && is_none o.query then Some (with_query o place)
     else (if bytes_eq name (codes "--scenario") && is_none o.scenario then Some (with_scenario o place)
-    else (if bytes_eq name (codes "--budget") && is_none o.budget then option_map (with_budget o) (count_up_to BUDGET value)
-    else (if bytes_eq name (codes "--answers") && is_none o.answers then option_map (with_answers o) (count_up_to MOST_ANSWERS value)
+    else (if bytes_eq name (codes "--budget") && is_none o.budget then option_map (with_budget o) (count_up_to 100000 value)
+    else (if bytes_eq name (codes "--answers") && is_none o.answers then option_map (with_answers o) (count_up_to 1000 value)
     else None)))
 
 -- the options with those of some words, which are pairs of a name and a value and stand from this place on
@@ -48,15 +47,26 @@ options_from at o (name ∷ value ∷ words) = option_and_then (λ p. options_fr
 abbrev pub no_options : Options
 no_options = record { query = None; scenario = None; budget = None; answers = None }
 
--- the task of the command `answer` with these options, where the query has a name
+-- the task of the command `answer` with these options, where the query has a name; the budget is 100,000 and 100 answers are asked for where the words don't say
 abbrev pub answer_task : Options → Option Task
-answer_task o = option_map (λ place. record { command = Answer; query = Some place; scenario = o.scenario; budget = unwrap_or o.budget BUDGET; answers = unwrap_or o.answers ANSWERS }) o.query
+answer_task o = option_map (λ place. record { command = Answer; query = Some place; scenario = o.scenario; budget = unwrap_or o.budget 100000; answers = unwrap_or o.answers 100 }) o.query
 
--- the task of this command with the words behind it
+-- whether a command is `clauses` and no word follows it
+abbrev pub is_clauses : List ℕ → List (List ℕ) → Bool
+is_clauses command [] = bytes_eq command (codes "clauses")
+is_clauses command (word ∷ words) = false
+
+-- the task of the command `clauses`
+abbrev pub clauses_task : Task
+clauses_task = record { command = Clauses; query = None; scenario = None; budget = 100000; answers = 100 }
+
+-- the task of this command with the words that follow it
 abbrev pub command_task : List ℕ → List (List ℕ) → Option Task
-command_task command words = if bytes_eq command (codes "answer") then option_and_then answer_task (options_from 1 no_options words) else None
+command_task command words =
+    if bytes_eq command (codes "answer") then option_and_then answer_task (options_from 1 no_options words)
+    else (if is_clauses command words then Some clauses_task else None)
 
--- the task that a list of words asks for: a command and pairs of an option's name and its value, in any order and each name at most once
+-- the task that a list of words asks for: `answer` and pairs of an option's name and its value, in any order and each name at most once, or `clauses` alone
 abbrev pub job_of : List (List ℕ) → Option Task
 job_of [] = None
 job_of (command ∷ words) = command_task command words
@@ -65,5 +75,5 @@ job_of (command ∷ words) = command_task command words
 pub record AreOptions (count : ℕ) (o : Options) : Type 0 where
   pub query : IfSome o.query (λ place. place < count)
   pub scenario : IfSome o.scenario (λ place. place < count)
-  pub budget : IfSome o.budget (λ n. (1 ≤ n) × (n ≤ BUDGET))
-  pub answers : IfSome o.answers (λ n. (1 ≤ n) × (n ≤ MOST_ANSWERS))
+  pub budget : IfSome o.budget (λ n. (1 ≤ n) × (n ≤ 100000))
+  pub answers : IfSome o.answers (λ n. (1 ≤ n) × (n ≤ 1000))

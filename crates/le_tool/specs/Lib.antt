@@ -1,5 +1,4 @@
+pub mod Admitted
 pub mod Job
 pub mod Report
 pub mod Statuses
-pub mod ValueSymbols
-pub mod Values

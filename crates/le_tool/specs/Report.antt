@@ -17,14 +17,18 @@ use Rattle.le_terms.specs.declared.program.Program.{Program}
 use Rattle.le_clauses.specs.declared.whole.Whole.{Whole}
 use Rattle.le_clauses.specs.Pieces.{program_of}
 use Rattle.le_clauses.specs.Selection.{selected}
+use Rattle.le_listing.specs.ClauseText.{clauses_text}
+use Rattle.le_english.specs.Phrases.{term_text}
 use Rattle.le_proofs.specs.declared.next.Next.{Next}
 use Rattle.le_proofs.specs.declared.next.Next.TheVariants.{Answer, Done, Floundered, OutOfRange, Spent}
-use Rattle.le_proofs.specs.Search.{Leaf, answers_of, end_of}
+use Rattle.le_proofs.specs.Proofs.{Leaf}
+use Rattle.le_proofs.specs.Search.{answers_of, end_of}
+use Rattle.le_tool.specs.declared.jobs.Command.{Command}
+use Rattle.le_tool.specs.declared.jobs.Command.TheVariants.{Answer as Answering, Clauses}
 use Rattle.le_tool.specs.declared.jobs.Task.{Task}
 use Rattle.le_tool.specs.declared.report.Report.{Report}
 use Rattle.le_tool.specs.declared.running.Names.{Names}
 use Rattle.le_tool.specs.Job.{job_of}
-use Rattle.le_tool.specs.Values.{value_text}
 
 -- the most bytes of a document
 abbrev pub most_bytes : ℕ
@@ -68,7 +72,7 @@ refused_report r = record { text = refusal_text r; status = 1 }
 
 -- the line of a value: the name of the variable that is asked for, and its term
 abbrev pub value_line : Whole → Asked → Tree → List ℕ
-value_line whole asked tree = asked.name ++ (codes ": " ++ (value_text whole.templates whole.names tree ++ codes "\n"))
+value_line whole asked tree = asked.name ++ (codes ": " ++ (term_text whole.templates whole.names tree ++ codes "\n"))
 
 -- the lines of the values of an answer
 abbrev pub value_lines : Whole → List Asked → List Tree → List ℕ
@@ -170,15 +174,25 @@ question_of words task = record {
 abbrev pub question_by : Names → ℕ → ℕ → Question
 question_by names budget most = record { query = names.query.now; scenario = option_map (λ s. s.now) names.scenario; budget = budget; most = most }
 
+-- the clauses of a document, or its refusal
+abbrev pub clauses_report : Result Whole Refusal → Report
+clauses_report (Ok whole) = record { text = clauses_text whole; status = 0 }
+clauses_report (Err refusal) = refused_report refusal
+
+-- the report of a command on a document: the answers to its question, or the document's clauses
+abbrev pub command_report : Command → List (List ℕ) → Task → List ℕ → Report
+command_report Answering words task bytes = document_report (question_of words task) (document_of bytes)
+command_report Clauses words task bytes = clauses_report (document_of bytes)
+
 -- the report of a task on a document
 abbrev pub task_report : List (List ℕ) → Task → List ℕ → Report
-task_report words task bytes = document_report (question_of words task) (document_of bytes)
+task_report words task bytes = command_report task.command words task bytes
 
 -- the line that says how the program is called
 abbrev pub usage_text : List ℕ
 usage_text = codes "usage: le answer|explain|certify --query NAME [--scenario NAME] [--budget N] [--answers K] | clauses | check | trial N\n"
 
--- the report of these words on this document: the usage line where the words ask for nothing
+-- the report of these words on this document: the usage line where the command line isn't valid
 abbrev pub report_by : List (List ℕ) → List ℕ → Option Task → Report
 report_by words bytes None = record { text = usage_text; status = 2 }
 report_by words bytes (Some task) = task_report words task bytes

@@ -1,13 +1,15 @@
 ghost use Rattle.std.specs.Prelude.{◌≡◌, ℕ, ◌+◌, ◌<◌, ◌≤◌, length, map, string_bytes, take, drop, IfSome};
-ghost use Rattle.le_tool.specs.Job.{count_up_to, no_options, with_option, options_from, answer_task as answer_task_of, job_of, AreOptions};
+ghost use Rattle.le_tool.specs.Job.{count_up_to, no_options, with_option, options_from, answer_task as answer_task_of, is_clauses as is_clauses_of, job_of, AreOptions};
 
 use le_values::number_of;
 
-/// What a list of words asks for.
+/// What the command line asks for.
 #[derive(Clone, Copy, Debug, PartialEq, Eq)]
 pub enum Command {
     /// The answers of a query.
     Answer,
+    /// The clauses of a document.
+    Clauses,
 }
 
 /// The most answers that are shown, where the words don't say.
@@ -34,7 +36,7 @@ pub struct Task {
     pub answers: u32,
 }
 
-// The options of a command so far: the places of names, and numbers.
+/// The options of a command so far: the places of names, and numbers.
 #[derive(Clone, Copy, Debug)]
 struct Options {
     query: Option<usize>,
@@ -43,12 +45,12 @@ struct Options {
     answers: Option<u32>,
 }
 
-/// The task that the words ask for, without the program's name, and None exactly where they have not
-/// the form of one: `answer`, and then pairs of an option and its value in any order, each option at
-/// most once. `--query NAME` has to be there, with any word as the name; `--scenario NAME`,
-/// `--budget N` with N from 1 to 100,000 (100,000 where it isn't there) and `--answers K` with K from 1
-/// to 1,000 (100 where it isn't there) may be. Numbers are ASCII digits without a sign or a leading
-/// zero. It takes no memory.
+/// The task that the words ask for, without the program's name, and None exactly where the command
+/// line isn't valid. It is valid where it is `clauses` alone, or `answer` and then pairs of an option
+/// and its value in any order, each option at most once. `--query NAME` has to be there, with any word
+/// as the name; `--scenario NAME`, `--budget N` with N from 1 to 100,000 (100,000 where it isn't there)
+/// and `--answers K` with K from 1 to 1,000 (100 where it isn't there) may be. Numbers are ASCII digits
+/// without a sign or a leading zero.
 pub fn job(words: &[String]) -> Option<Task>
     ensures exact { result ≡ job_of (map string_bytes words.now) }
     ensures query { IfSome result (λ task. IfSome task.query (λ place. place < length words.now)) }
@@ -56,13 +58,32 @@ pub fn job(words: &[String]) -> Option<Task>
     ensures budget { IfSome result (λ task. (1 ≤ task.budget) × (task.budget ≤ 100000)) }
     ensures answers { IfSome result (λ task. (1 ≤ task.answers) × (task.answers ≤ 1000)) }
 {
-    if words.is_empty() || words[0].as_str() != "answer" {
+    if words.is_empty() {
         return None;
     }
-    answer_task(read_options(words)?)
+    if words[0].as_str() == "answer" {
+        return answer_task(read_options(words)?);
+    }
+    if !is_clauses(words[0].as_str(), &words[1..]) {
+        return None;
+    }
+    Some(Task {
+        command: Command::Clauses,
+        query: None,
+        scenario: None,
+        budget: BUDGET,
+        answers: ANSWERS,
+    })
 }
 
-// The task of the command `answer` with these options.
+/// Whether a command is `clauses` and no word follows it.
+fn is_clauses(command: &str, rest: &[String]) -> bool
+    ensures { result ≡ is_clauses_of command.now (map string_bytes rest.now) }
+{
+    rest.is_empty() && command == "clauses"
+}
+
+/// The task of the command `answer` with these options.
 fn answer_task(options: Options) -> Option<Task>
     ensures { result ≡ answer_task_of options }
 {
@@ -76,7 +97,7 @@ fn answer_task(options: Options) -> Option<Task>
     })
 }
 
-// The options behind the first word.
+/// The options after the first word.
 fn read_options(words: &[String]) -> Option<Options>
     requires { 0 < length words.now }
     ensures exact { result ≡ options_from 1 no_options (map string_bytes (drop 1 words.now)) }
@@ -99,7 +120,7 @@ fn read_options(words: &[String]) -> Option<Options>
     Some(options)
 }
 
-// The options with one more, whose value is the word at this place, or None where it is none.
+/// The options with one more, whose value is the word at this place, or None where it is none.
 #[tactic(auto, unfolding(crate::specs::Job::with_option))]
 fn with_option(options: Options, name: &str, place: usize, value: &str) -> Option<Options>
     ensures exact { result ≡ with_option options name.now place value.now }
@@ -134,7 +155,7 @@ fn with_option(options: Options, name: &str, place: usize, value: &str) -> Optio
     None
 }
 
-// The number from 1 to `most` that a word is, in digits without a sign or a leading zero.
+/// The number from 1 to `most` that a word is, in digits without a sign or a leading zero.
 #[tactic(auto, unfolding(crate::specs::Job::count_up_to))]
 fn count_up_to(most: u32, word: &str) -> Option<u32>
     ensures exact { result ≡ count_up_to most word.now }

@@ -1,14 +1,15 @@
 //! The words of the command line and a document to the report.
 #![tactic(auto)]
 
+#[cfg(test)]
+mod document_tests;
 mod jobs;
+#[cfg(test)]
+mod language_tests;
 mod report;
 mod running;
 #[cfg(test)]
 mod tests;
-#[cfg(test)]
-mod value_tests;
-mod values;
 
 pub use jobs::{Command, Task, job};
 pub use running::run;

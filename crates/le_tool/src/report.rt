@@ -1,10 +1,10 @@
 ghost use Rattle.std.specs.Prelude.{◌≡◌, ◌+◌, ◌<◌, ◌++◌, IfOk, OnOk, decimal};
 ghost use Rattle.le_tool.specs.Report.{refused_report, readings_text, is_ambiguous, both_text, value_line, value_lines, answer_lines, answer_text, stopped_line, end_line, end_status};
 
-use crate::values::push_value;
 use itoa::Buffer;
 use le_base::{Code, Refusal, Text};
 use le_clauses::Whole;
+use le_english::say_term;
 use le_proofs::Next;
 use le_terms::{Asked, Term};
 use std::alloc::{AllocError, Global};
@@ -135,7 +135,8 @@ fn push_value_line(
 {
     text.push_str(asked.name.as_str())?;
     text.push_str(": ")?;
-    push_value(alloc, text, &whole.templates, &whole.names, value)?;
+    let phrase = say_term(alloc, &whole.templates, &whole.names, value)?;
+    text.push_str(phrase.as_str())?;
     text.push_str("\n")?;
     Ok(())
 }

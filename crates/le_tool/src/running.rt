@@ -1,4 +1,4 @@
-ghost use Rattle.std.specs.Prelude.{◌≡◌, ◌≢◌, ◌<◌, ◌≤◌, ◌⊎◌, ◌↔◌, true, length, map, string_bytes, Ok, IfOk, OnOk, IfSome, IsNone, IsSome, IsErrOf};
+ghost use Rattle.std.specs.Prelude.{◌≡◌, ◌≢◌, ◌<◌, ◌≤◌, ◌⊎◌, ◌↔◌, true, length, map, string_bytes, Some, Ok, IfOk, OnOk, IfSome, IsNone, IsSome, IsErrOf};
 ghost use Rattle.std.specs.Option.{option_map};
 ghost use Rattle.std.specs.Io.KnownBytes.{Appends, Keeps};
 ghost use Rattle.le_base.specs.declared.code.Code.TheVariants.{TooLong};
@@ -7,20 +7,23 @@ ghost use Rattle.le_base.specs.Stop.{refusal_at, Gives};
 ghost use Rattle.le_terms.specs.Program.{IsProgram};
 ghost use Rattle.le_clauses.specs.Validity.{IsWhole};
 ghost use Rattle.le_clauses.specs.Selection.{selected};
-ghost use Rattle.le_proofs.specs.Goals.{HasAtomsAlone};
 ghost use Rattle.le_proofs.specs.declared.next.Next.TheVariants.{Answer};
 ghost use Rattle.le_machine.specs.declared.phase.Phase.TheVariants.{Told};
 ghost use Rattle.le_machine.specs.State.{last_values};
 ghost use Rattle.le_tool.specs.Job.{job_of};
-ghost use Rattle.le_tool.specs.Report.{document_of, said_text, end_line, end_status, stopped_line, search_report, document_report, question_of, question_by, query_name as query_name_of, word_at, refused_report, usage_text, task_report, report};
+ghost use Rattle.le_tool.specs.Report.{document_of, said_text, end_line, end_status, stopped_line, search_report, document_report, clauses_report, command_report, question_of, question_by, query_name as query_name_of, word_at, refused_report, usage_text, task_report, report};
+ghost use Rattle.le_listing.specs.ClauseText.{clauses_text};
+ghost use Rattle.le_tool.specs.declared.jobs.Command.TheVariants.{Answer as Answering};
+ghost use Rattle.le_tool.specs.Admitted.{command_search, search_for, search_asked, IsShown};
 ghost use Rattle.le_tool.specs.Statuses.{failure_status, is_answer, IsDone};
 
-use crate::jobs::{Task, job};
+use crate::jobs::{Command, Task, job};
 use crate::report::{Report, answer, ended, refused, stopped};
 use le_base::{Code, ReadStop, Refusal, Sink, Source, Stop, WriteFault, put, read_all};
 use le_clauses::{Whole, program, select};
 use le_docs::sections;
 use le_layout::scan;
+use le_listing::clause_text;
 use le_machine::Machine;
 use le_proofs::Next;
 use le_terms::{Asked, Program};
@@ -220,7 +223,6 @@ fn say_answers<K: Sink>(
     out: &mut K,
 ) -> Result<u8, Failure>
     requires program { IsProgram program.now }
-    requires atoms { HasAtomsAlone program.now }
     requires some { 1 ≤ budget }
     requires few { budget ≤ 1000000 }
     ensures done { IfOk result (λ status. let r = search_report whole.now most budget program.now in Appends (K.written out.old) (K.written out.new) r.text × (status ≡ r.status)) }
@@ -339,6 +341,76 @@ fn scenario_name<'a>(words: &'a [String], task: &Task) -> Option<&'a str>
     Some(words[place].as_str())
 }
 
+/// Writes the answers that a task asks for from the document that the source holds.
+fn run_answer<S: Source, K: Sink>(
+    alloc: Global,
+    words: &[String],
+    task: &Task,
+    input: &mut S,
+    out: &mut K,
+) -> Result<u8, Failure>
+    requires query { IfSome task.now.query (λ place. place < length words.now) }
+    requires scenario { IfSome task.now.scenario (λ place. place < length words.now) }
+    requires budget { (1 ≤ task.now.budget) × (task.now.budget ≤ 100000) }
+    ensures done { IfOk result (λ status. IfSome (S.left input.old) (λ bytes.
+        let r = command_report Answering (map string_bytes words.now) task.now bytes in
+        Appends (K.written out.old) (K.written out.new) r.text × (status ≡ r.status))) }
+    ensures part { IfSome (S.left input.old) (λ bytes.
+        AppendsPrefix (K.written out.old) (K.written out.new) (command_report Answering (map string_bytes words.now) task.now bytes).text) }
+    ensures answers { IfOk result (λ _. IfSome (S.left input.old) (λ bytes. IfSome (command_search Answering (map string_bytes words.now) bytes task.now) IsShown)) }
+    ensures statuses { IfOk result IsDone }
+    ensures read_fault { IsErrOf result Failure.Read → Rose (S.faults input.old) (S.faults input.new) × Keeps (K.written out.old) (K.written out.new) }
+    ensures write_fault { IsErrOf result Failure.Write → Rose (K.faults out.old) (K.faults out.new) }
+{
+    let names = task_names(words, task);
+    let document = read_document(alloc, input)?;
+    say_query(alloc, &document, names, task.budget, task.answers, out)
+}
+
+/// Writes the clauses of a document.
+fn say_whole<K: Sink>(alloc: Global, whole: &Whole, out: &mut K) -> Result<u8, Failure>
+    ensures done { IfOk result (λ status. Appends (K.written out.old) (K.written out.new) (clauses_text whole.now) × (status ≡ 0)) }
+    ensures part { AppendsPrefix (K.written out.old) (K.written out.new) (clauses_text whole.now) }
+    ensures fault { IsErrOf result Failure.Write → Rose (K.faults out.old) (K.faults out.new) }
+    ensures no_read { IsErrOf result Failure.Read → ⊥ }
+{
+    let text = clause_text(alloc, whole)?;
+    say(out, text.as_str())?;
+    Ok(0)
+}
+
+/// Writes the clauses of a document, or its refusal.
+fn say_clauses<K: Sink>(
+    alloc: Global,
+    document: &Result<Whole, Refusal>,
+    out: &mut K,
+) -> Result<u8, Failure>
+    ensures done { IfOk result (λ status. let r = clauses_report document.now in Appends (K.written out.old) (K.written out.new) r.text × (status ≡ r.status)) }
+    ensures part { AppendsPrefix (K.written out.old) (K.written out.new) (clauses_report document.now).text }
+    ensures fault { IsErrOf result Failure.Write → Rose (K.faults out.old) (K.faults out.new) }
+    ensures no_read { IsErrOf result Failure.Read → ⊥ }
+{
+    match document {
+        Ok(whole) => say_whole(alloc, whole, out),
+        Err(refusal) => say_refusal(alloc, refusal, out),
+    }
+}
+
+/// Writes the clauses of the document that the source holds.
+fn run_clauses<S: Source, K: Sink>(alloc: Global, input: &mut S, out: &mut K) -> Result<u8, Failure>
+    ensures done { IfOk result (λ status. IfSome (S.left input.old) (λ bytes.
+        let r = clauses_report (document_of bytes) in
+        Appends (K.written out.old) (K.written out.new) r.text × (status ≡ r.status))) }
+    ensures part { IfSome (S.left input.old) (λ bytes.
+        AppendsPrefix (K.written out.old) (K.written out.new) (clauses_report (document_of bytes)).text) }
+    ensures statuses { IfOk result IsDone }
+    ensures read_fault { IsErrOf result Failure.Read → Rose (S.faults input.old) (S.faults input.new) × Keeps (K.written out.old) (K.written out.new) }
+    ensures write_fault { IsErrOf result Failure.Write → Rose (K.faults out.old) (K.faults out.new) }
+{
+    let document = read_document(alloc, input)?;
+    say_clauses(alloc, &document, out)
+}
+
 /// Runs a task on the document that the source holds, and writes its report.
 fn run_task<S: Source, K: Sink>(
     alloc: Global,
@@ -355,13 +427,15 @@ fn run_task<S: Source, K: Sink>(
         Appends (K.written out.old) (K.written out.new) r.text × (status ≡ r.status))) }
     ensures part { IfSome (S.left input.old) (λ bytes.
         AppendsPrefix (K.written out.old) (K.written out.new) (task_report (map string_bytes words.now) task.now bytes).text) }
+    ensures answers { IfOk result (λ _. IfSome (S.left input.old) (λ bytes. IfSome (search_for (map string_bytes words.now) bytes (Some task.now)) IsShown)) }
     ensures statuses { IfOk result IsDone }
     ensures read_fault { IsErrOf result Failure.Read → Rose (S.faults input.old) (S.faults input.new) × Keeps (K.written out.old) (K.written out.new) }
     ensures write_fault { IsErrOf result Failure.Write → Rose (K.faults out.old) (K.faults out.new) }
 {
-    let names = task_names(words, task);
-    let document = read_document(alloc, input)?;
-    say_query(alloc, &document, names, task.budget, task.answers, out)
+    match task.command {
+        Command::Answer => run_answer(alloc, words, task, input, out),
+        Command::Clauses => run_clauses(alloc, input, out),
+    }
 }
 
 /// Writes the line that says how the program is called.
@@ -378,8 +452,8 @@ fn say_usage<K: Sink>(out: &mut K) -> u8
 
 /// Writes the report of these words, without the program's name, on the document that the input holds,
 /// each answer as soon as it is found, and answers its status: 0 where the answers are written and the
-/// search is done or as many stand as were asked for, 1 where the document or a name is refused, 2 where
-/// the words ask for nothing, 3 where the search floundered, 4 where its budget is spent, 9 where a
+/// search is done or as many were found as were asked for, or where the clauses are written, 1 where the
+/// document or a name is refused, 2 where the command line isn't valid, 3 where the search floundered, 4 where its budget is spent, 9 where a
 /// number was out of range. Further answers are 5 where a read failed, after which nothing was written,
 /// 6 where a write failed and 7 for want of memory, after which a first part of the report was written.
 /// Where the words ask for nothing, nothing is read and no memory is taken.
@@ -389,7 +463,12 @@ pub fn run<S: Source, K: Sink>(alloc: Global, words: &[String], input: &mut S, o
         let r = report (map string_bytes words.now) bytes in
         Appends (K.written out.old) (K.written out.new) r.text × (result ≡ r.status)) }
 
-    // Whatever the answer, it is a first part of the report.
+    // The answers of the report are those of a search, each of which is admitted with its derivation; and where
+    // that search is done, they are all that there are.
+    ensures answers { result ≢ 5 → result ≢ 6 → result ≢ 7 → IfSome (S.left input.old) (λ bytes.
+        IfSome (search_asked (map string_bytes words.now) bytes) IsShown) }
+
+    // Whatever the answer, it is a prefix of the report.
     ensures part { IfSome (S.left input.old) (λ bytes.
         AppendsPrefix (K.written out.old) (K.written out.new) (report (map string_bytes words.now) bytes).text) }
 
@@ -433,6 +512,7 @@ fn task_status<S: Source, K: Sink>(
         Appends (K.written out.old) (K.written out.new) r.text × (result ≡ r.status)) }
     ensures part { IfSome (S.left input.old) (λ bytes.
         AppendsPrefix (K.written out.old) (K.written out.new) (task_report (map string_bytes words.now) task.now bytes).text) }
+    ensures answers { result ≢ 5 → result ≢ 6 → result ≢ 7 → IfSome (S.left input.old) (λ bytes. IfSome (search_for (map string_bytes words.now) bytes (Some task.now)) IsShown) }
     ensures statuses { result ≢ 5 → result ≢ 6 → result ≢ 7 → IsDone result }
     ensures read_fault { result ≡ 5 → Rose (S.faults input.old) (S.faults input.new) × Keeps (K.written out.old) (K.written out.new) }
     ensures write_fault { result ≡ 6 → Rose (K.faults out.old) (K.faults out.new) }

@@ -1,9 +1,10 @@
 use Rattle.std.proofs.Common.{map, string_bytes, Global, sym, subst}
 use Rattle.std.proofs.lemmas.Result.{IfOk-weaker}
 use Rattle.le_tool.specs.Statuses.{IsDone}
+use Rattle.le_tool.proofs.AdmittedLemmas.{shown_of}
 use Rattle.le_tool.proofs.DocumentLemmas.{question_part, question_whole}
 use Rattle.le_tool.proofs.SearchLemmas.{document_done}
-use Rattle.le_tool.proofs.running.run_task.Goals as goal
+use Rattle.le_tool.proofs.running.run_answer.Goals as goal
 
 pub returns-clause-done : goal.returns-clause-done
 returns-clause-done g c =
@@ -16,3 +17,7 @@ returns-clause-part g c =
 pub returns-clause-statuses : goal.returns-clause-statuses
 returns-clause-statuses g c =
     IfOk-weaker c.say_query.result _ _ (λ status h. subst IsDone (sym h.1) (document_done _ c.in_ok-document.document)) c.say_query.ensures.done
+
+pub returns-clause-answers : goal.returns-clause-answers
+returns-clause-answers g c =
+    IfOk-weaker c.say_query.result _ _ (λ status h. shown_of _ (map (string_bytes {Z = Global}) c.args.words.now) c.args.task.now c.in_ok-document.document c.in_ok-document.ensures.sound c.in_ok-document.ensures.exact) c.say_query.ensures.done
