@@ -8,7 +8,6 @@ use Rattle.le_terms.specs.declared.program.Form.{Form}
 use Rattle.le_terms.specs.declared.program.Form.TheVariants.{Pos, Neg, Calc, Gather as Gathering}
 use Rattle.le_terms.specs.declared.program.Literal.{Literal}
 use Rattle.le_terms.specs.declared.program.Program.{Program}
-use Rattle.le_proofs.specs.declared.node.Node.{Node}
 use Rattle.le_proofs.specs.declared.node.Node.TheVariants.{Split, Branch, Computed, Lacking, Gathered, Ungathered}
 use Rattle.le_proofs.specs.declared.next.Next.{Next}
 use Rattle.le_proofs.specs.declared.next.Next.TheVariants.{Answer, Done, Floundered, OutOfRange, Spent}

@@ -6,4 +6,5 @@ pub mod Joined
 pub mod Noting
 pub mod Places
 pub mod Renaming
+pub mod Stops
 pub mod WalkLaws

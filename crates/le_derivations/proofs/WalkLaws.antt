@@ -1,5 +1,5 @@
 -- What a walk under way comes to, step by step.
-use Rattle.std.proofs.Common.{◌≡◌, ℕ, suc, true, false, Bool, List, [], ◌∷◌, ◌++◌, map, length, Option, Some, None, refl, sym, ap, ap₂, ◌∙◌, append_assoc, append-nil, if◌then◌else◌}
+use Rattle.std.proofs.Common.{◌≡◌, ℕ, suc, true, List, [], ◌∷◌, ◌++◌, map, length, Option, Some, None, refl, sym, ap, ap₂, ◌∙◌, append_assoc, append-nil, if◌then◌else◌}
 use Rattle.std.proofs.lemmas.List.{map-append}
 use Rattle.le_base.specs.declared.stop.FoldKind.{FoldKind}
 use Rattle.le_terms.specs.Tree.{Tree}
@@ -61,10 +61,10 @@ step-leaves : (path : List Step) (step : Step) (events : List Event) → map (le
 step-leaves path step events = ap (map (leaf_along path)) (leaves-above step events) ∙ below-step path step (leaves_of events)
 
 -- a subsidiary visit that was begun has no leaves for the visit around it
-tried-leaves : (events more : List Event) → leaves_of (begun tried events ++ more) ≡ leaves_of more
+pub tried-leaves : (events more : List Event) → leaves_of (begun tried events ++ more) ≡ leaves_of more
 tried-leaves events more = leaves-append (begun tried events) more ∙ ap (λ ls. ls ++ leaves_of more) (leaves-outside events)
 
-folded-leaves : (events more : List Event) → leaves_of (begun folded events ++ more) ≡ leaves_of more
+pub folded-leaves : (events more : List Event) → leaves_of (begun folded events ++ more) ≡ leaves_of more
 folded-leaves events more = leaves-append (begun folded events) more ∙ ap (λ ls. ls ++ leaves_of more) (leaves-outside events)
 
 -- a tree below a step

@@ -7,7 +7,7 @@ use Rattle.le_proofs.specs.declared.node.Node.TheVariants.{Split, Branch, Comput
 use Rattle.le_proofs.specs.declared.next.Next.{Next}
 use Rattle.le_proofs.specs.declared.next.Next.TheVariants.{Answer, Done, Floundered, OutOfRange, Spent}
 use Rattle.le_proofs.specs.Goals.{Goal, Child}
-use Rattle.le_proofs.specs.Proofs.{Step, Leaf, from_above}
+use Rattle.le_proofs.specs.Proofs.{Step, Leaf}
 use Rattle.le_proofs.specs.SearchTree.{SearchTree, Branches, leaves, course_of, course_each, first_proof}
 use Rattle.le_proofs.specs.SearchTree as search
 use Rattle.le_proofs.specs.Derivations.{proof_nodes}
@@ -49,6 +49,12 @@ walk_of tree = record { leaves = leaves (course_of tree); nodes = visit_nodes tr
 -- the walk of branches, one after another
 abbrev pub walk_each : Branches → Walk
 walk_each branches = record { leaves = leaves (course_each branches); nodes = visit_each branches; ending = (course_each branches).ending; left = (course_each branches).left }
+
+-- a walk found these leaves, and ends so with so many selections left
+pub record EndsWith (walk : Walk) (found : List Leaf) (ending : Next) (left : ℕ) : Type 0 where
+  pub leaves_ : walk.leaves ≡ found
+  pub ending_ : walk.ending ≡ ending
+  pub left_ : walk.left ≡ left
 
 -- nothing is left to be walked
 abbrev pub done : ℕ → Walk

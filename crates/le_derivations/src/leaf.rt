@@ -21,10 +21,10 @@ const TOO_MANY: usize = 1 << 31;
 /// the terms of the answer there.
 pub fn derivation_of(
     alloc: Global,
-    path: Vec<PathStep>,
+    path: &[PathStep],
     terms: &[Term],
 ) -> Result<Derivation, AllocError>
-    ensures { IfOk result (λ derivation. (steps : List Step) (left : ℕ) → AreSteps (reverse path.items) steps → derivation.nodes ≡ (certificate_of (leaf_along steps (empty_leaf terms.now left))).nodes) }
+    ensures { IfOk result (λ derivation. (steps : List Step) (left : ℕ) → AreSteps (reverse path.now) steps → derivation.nodes ≡ (certificate_of (leaf_along steps (empty_leaf terms.now left))).nodes) }
 {
     let proving = proved(alloc, path)?;
     let mut nodes = proving.nodes;
@@ -55,8 +55,8 @@ fn certified(
 
 /// The nodes of the proof of a goal's only literal that a path leads to from its first step to its last. Their
 /// variables are those of the search.
-pub fn proof_of(alloc: Global, path: Vec<PathStep>) -> Result<Vec<Node>, AllocError>
-    ensures { IfOk result (λ nodes. (steps : List Step) (terms : List Tree) (left : ℕ) → AreSteps (reverse path.items) steps → nodes.items ≡ proof_nodes (first_proof (leaf_along steps (empty_leaf terms left)))) }
+pub fn proof_of(alloc: Global, path: &[PathStep]) -> Result<Vec<Node>, AllocError>
+    ensures { IfOk result (λ nodes. (steps : List Step) (terms : List Tree) (left : ℕ) → AreSteps (reverse path.now) steps → nodes.items ≡ proof_nodes (first_proof (leaf_along steps (empty_leaf terms left)))) }
 {
     let proving = proved(alloc, path)?;
     if proving.proofs != 1 {

@@ -22,30 +22,32 @@ pub(crate) struct Proving {
 }
 
 // The proofs that a path from a goal to one without literals gives, the path's last step first.
-pub(crate) fn proved(alloc: Global, mut path: Vec<PathStep>) -> Result<Proving, AllocError>
-    ensures { IfOk result (λ proving. (whole : Leaf) → IsPartWay (reverse path.items) [] 0 [] whole → AreProofs (reverse proving.nodes.items) proving.proofs proving.by whole) }
+pub(crate) fn proved(alloc: Global, path: &[PathStep]) -> Result<Proving, AllocError>
+    ensures { IfOk result (λ proving. (whole : Leaf) → IsPartWay (reverse path.now) [] 0 [] whole → AreProofs (reverse proving.nodes.items) proving.proofs proving.by whole) }
 {
     let mut proving = Proving {
         nodes: Vec::new(alloc),
         proofs: 0,
         by: Subst::empty(alloc),
     };
-    while let Some(step) = path.pop() {
-        add_step(alloc, &mut proving, step)?;
+    let mut at = path.len();
+    while at > 0 {
+        at -= 1;
+        add_step(alloc, &mut proving, &path[at])?;
     }
     Ok(proving)
 }
 
 // Goes up one step.
-fn add_step(alloc: Global, proving: &mut Proving, step: PathStep) -> Result<(), AllocError>
-    ensures { OnOk result ((abstract : Step) (leaf : Leaf) → IsStep step abstract → AreProofs (reverse proving.old.nodes.items) proving.old.proofs proving.old.by leaf → AreProofs (reverse proving.new.nodes.items) proving.new.proofs proving.new.by (from_above abstract leaf)) }
+fn add_step(alloc: Global, proving: &mut Proving, step: &PathStep) -> Result<(), AllocError>
+    ensures { OnOk result ((abstract : Step) (leaf : Leaf) → IsStep step.now abstract → AreProofs (reverse proving.old.nodes.items) proving.old.proofs proving.old.by leaf → AreProofs (reverse proving.new.nodes.items) proving.new.proofs proving.new.by (from_above abstract leaf)) }
 {
     proving.by.put_after(alloc, &step.unifier)?;
     let taken = taken_proofs(proving.proofs, step.place, &step.node);
     let node = changed_node(alloc, &Change::Apply(&proving.by), &step.node)?;
     let first = with_count(node, taken);
     let at = front_end(&proving.nodes, step.place)?;
-    put_in(&mut proving.nodes, at, first, step.below.into_vec())?;
+    put_in(alloc, &mut proving.nodes, at, first, step.below.as_slice())?;
     let Some(proofs) = (proving.proofs - taken).checked_add(1) else {
         return Err(AllocError);
     };
@@ -98,23 +100,31 @@ fn front_end(nodes: &[Node], proofs: usize) -> Result<usize, AllocError>
 }
 
 // Puts a node and those below it among nodes at a place, where all stand the last first.
-fn put_in(nodes: &mut Vec<Node>, at: usize, node: Node, below: Vec<Node>) -> Result<(), AllocError>
+fn put_in(
+    alloc: Global,
+    nodes: &mut Vec<Node>,
+    at: usize,
+    node: Node,
+    below: &[Node],
+) -> Result<(), AllocError>
     requires { at ≤ length nodes.old.items }
-    ensures { OnOk result (reverse nodes.new.items ≡ reverse (drop at nodes.old.items) ++ (node ∷ (below.items ++ reverse (take at nodes.old.items)))) }
+    ensures { OnOk result (reverse nodes.new.items ≡ reverse (drop at nodes.old.items) ++ (node ∷ (below.now ++ reverse (take at nodes.old.items)))) }
 {
     let mut front = nodes.split_off(at)?;
-    push_reversed(nodes, below)?;
+    push_reversed(alloc, nodes, below)?;
     nodes.push(node)?;
     nodes.append(&mut front)?;
     Ok(())
 }
 
 // Appends nodes, the last first.
-fn push_reversed(nodes: &mut Vec<Node>, mut more: Vec<Node>) -> Result<(), AllocError>
-    ensures { OnOk result (reverse nodes.new.items ≡ more.items ++ reverse nodes.old.items) }
+fn push_reversed(alloc: Global, nodes: &mut Vec<Node>, more: &[Node]) -> Result<(), AllocError>
+    ensures { OnOk result (reverse nodes.new.items ≡ more.now ++ reverse nodes.old.items) }
 {
-    while let Some(last) = more.pop() {
-        nodes.push(last)?;
+    let mut at = more.len();
+    while at > 0 {
+        at -= 1;
+        nodes.push(more[at].copy(alloc)?)?;
     }
     Ok(())
 }

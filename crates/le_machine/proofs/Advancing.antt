@@ -7,17 +7,19 @@ use Rattle.le_terms.specs.Variables.{all_variables}
 use Rattle.le_terms.specs.declared.program.Program.{Program}
 use Rattle.le_terms.proofs.Few.{length-all_variables-le}
 use Rattle.le_proofs.specs.Proofs.{Leaf}
+use Rattle.le_proofs.specs.SearchTree.{empty_leaf}
+use Rattle.le_proofs.specs.UnderWay.{leaf_along}
+use Rattle.le_derivations.proofs.GoingUp.{along-terms}
 use Rattle.le_proofs.specs.Search.{answers_of}
 use Rattle.le_proofs.specs.declared.next.Next.TheVariants.{Answer, Done, Floundered, OutOfRange, Spent}
 use Rattle.le_proofs.proofs.Counts.{answers-few}
 use Rattle.le_proofs.proofs.LeavesBelow.{answers-below}
-use Rattle.le_machine.specs.declared.goals.OpenGoal.{OpenGoal}
-use Rattle.le_machine.specs.declared.goals.Stack.{Stack}
-use Rattle.le_machine.specs.declared.goals.SubSearch.{SubSearch}
+use Rattle.le_machine.specs.declared.goals.Searches.{Searches}
 use Rattle.le_machine.specs.declared.phase.Phase.{Phase}
 use Rattle.le_machine.specs.declared.phase.Phase.TheVariants.{Fresh, Told, Lost}
 use Rattle.le_machine.specs.State.{Selections, IsAtLeaf, Stands}
-use Rattle.le_machine.proofs.Walks.{all-slice}
+use Rattle.le_machine.proofs.UnderWay.{along-left}
+use Rattle.le_literals.proofs.Walks.{all-slice}
 
 -- an answer has a number of 64 bits
 pub given-fits : (program : Program) (budget given : ℕ) → IsProgram program → budget ≤ 1000000 → given < length (answers_of program budget) → given + 1 < 2 ^ 64
@@ -28,20 +30,20 @@ given-fits program budget given is small less =
     omega arith
 
 -- an answer's terms have few variables
-pub values-few : (program : Program) (budget given left : ℕ) (opens : List OpenGoal) (searches : List SubSearch) (terms : List Tree) → IsProgram program → budget ≤ 1000000 → IsAtLeaf program budget given left opens searches terms → length (all_variables terms) < 2 ^ 32
-values-few program budget given left opens searches terms is small at =
-    let n : ℕ = 64 + 64 * budget in
-    let one : HasVariablesBelow (64 + 64 * budget) at.leaf.terms = all-slice (λ (leaf : Leaf). HasVariablesBelow (64 + 64 * budget) leaf.terms) (answers_of program budget) (given - 1) at.leaf (answers-below program budget is) at.place in
-    let few : length (all_variables terms) ≤ 64 + 64 * budget = length-all_variables-le (64 + 64 * budget) terms (subst (HasVariablesBelow (64 + 64 * budget)) at.terms_ one) in
+pub values-few : (program : Program) (budget given left : ℕ) (searches : Searches) (terms : List Tree) → IsProgram program → budget ≤ 1000000 → IsAtLeaf program budget given left searches terms → length (all_variables terms) < 2 ^ 32
+values-few program budget given left searches terms is small at =
+    let leaf : Leaf = leaf_along at.steps (empty_leaf terms left) in
+    let one : HasVariablesBelow (64 + 64 * budget) leaf.terms = all-slice (λ (leaf : Leaf). HasVariablesBelow (64 + 64 * budget) leaf.terms) (answers_of program budget) (given - 1) leaf (answers-below program budget is) at.place in
+    let few : length (all_variables terms) ≤ 64 + 64 * budget = length-all_variables-le (64 + 64 * budget) terms (subst (HasVariablesBelow (64 + 64 * budget)) (along-terms at.steps (empty_leaf terms left)) one) in
     omega arith
 
 -- the selections up to what was answered
-pub selections-are : (program : Program) (budget given : ℕ) (phase : Phase) (left : ℕ) (stack : Stack) (terms : List Tree) → Stands phase program budget given left stack terms
+pub selections-are : (program : Program) (budget given : ℕ) (phase : Phase) (left : ℕ) (searches : Searches) (terms : List Tree) → Stands phase program budget given left searches terms
     → Selections (record { program = program; budget = budget; given = given; phase = phase }) phase (budget - left)
-selections-are program budget given Fresh left stack terms stands = let full : left ≡ budget = stands.1 in omega arith
-selections-are program budget given (Told Answer) left stack terms stands = ap (option_map (λ (leaf : Leaf). budget - leaf.left)) stands.place ∙ ap (λ n. Some (budget - n)) stands.left_
-selections-are program budget given (Told Done) left stack terms stands = ap (λ n. budget - n) (sym stands.selections)
-selections-are program budget given (Told (Floundered line)) left stack terms stands = ap (λ n. budget - n) (sym stands.selections)
-selections-are program budget given (Told (OutOfRange line)) left stack terms stands = ap (λ n. budget - n) (sym stands.selections)
-selections-are program budget given (Told Spent) left stack terms stands = ap (λ n. budget - n) (sym stands.selections)
-selections-are program budget given Lost left stack terms stands = tt
+selections-are program budget given Fresh left searches terms stands = let full : left ≡ budget = stands.1 in omega arith
+selections-are program budget given (Told Answer) left searches terms stands = ap (option_map (λ (leaf : Leaf). budget - leaf.left)) stands.place ∙ ap (λ n. Some (budget - n)) (along-left stands.steps (empty_leaf terms left))
+selections-are program budget given (Told Done) left searches terms stands = ap (λ n. budget - n) (sym stands.selections)
+selections-are program budget given (Told (Floundered line)) left searches terms stands = ap (λ n. budget - n) (sym stands.selections)
+selections-are program budget given (Told (OutOfRange line)) left searches terms stands = ap (λ n. budget - n) (sym stands.selections)
+selections-are program budget given (Told Spent) left searches terms stands = ap (λ n. budget - n) (sym stands.selections)
+selections-are program budget given Lost left searches terms stands = tt

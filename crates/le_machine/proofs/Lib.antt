@@ -1,9 +1,7 @@
 pub mod Advancing
 pub mod Built
 pub mod Children
-pub mod Keeping
-pub mod Parts
-pub mod Raising
 pub mod SelectedAt
 pub mod Turning
-pub mod Walks
+pub mod UnderWay
+pub mod Walking

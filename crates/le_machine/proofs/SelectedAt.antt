@@ -1,22 +1,11 @@
-use Rattle.std.proofs.Common.{◌≡◌, ◌≢◌, ℕ, suc, ◌+◌, ◌-◌, ◌<◌, ◌≤◌, List, [], ◌∷◌, ◌++◌, get_or, take, drop, length, Some, None, refl, sym, ap, subst, ◌∙◌, arith}
+-- The literal that is selected.
+use Rattle.std.proofs.Common.{◌≡◌, ℕ, zero, suc, ◌+◌, ◌<◌, List, [], ◌∷◌, ◌++◌, get_or, take, drop, length, Option, Some, None, refl, sym, ap, ◌∙◌, length-append, add-one, arith}
 use Rattle.std.specs.Prelude.{option_map}
-use Rattle.std.proofs.Common.{length-append, add-one, Option}
 use Rattle.le_terms.specs.declared.program.Literal.{Literal}
 use Rattle.le_terms.specs.declared.program.Program.{Program}
-use Rattle.le_proofs.specs.Goals.{Goal, Picked, is_delayed, selected}
-use Rattle.le_proofs.specs.declared.next.Next.TheVariants.{Floundered, Spent}
+use Rattle.le_proofs.specs.Goals.{Picked, is_delayed, selected}
 use Rattle.le_proofs.proofs.Picks.{IsPicked, pick-means}
-use Rattle.le_machine.specs.declared.goals.OpenGoal.{OpenGoal}
-use Rattle.le_machine.specs.declared.goals.SubSearch.{SubSearch}
-use Rattle.le_machine.specs.declared.goals.Found.TheVariants.{End}
-use Rattle.le_machine.specs.declared.goals.Turn.{Turn}
-use Rattle.le_machine.specs.declared.goals.Turn.TheVariants.{Visit, Back, Found}
-use Rattle.le_machine.specs.declared.goals.Task.{Task}
-use Rattle.le_machine.specs.declared.goals.Task.TheVariants.{Clauses, Search}
-use Rattle.le_machine.specs.Keeping.{Selects, IsUnderWay}
-use Rattle.le_machine.specs.State.{Advances, IsAtEnd}
-use Rattle.le_machine.specs.Turns.{task_weight, turn_weight}
-use Rattle.le_machine.proofs.Keeping.{stop-no-answer, spent-ends, unselected-ends}
+use Rattle.le_machine.specs.Keeping.{Selects, placed}
 
 before-is : (before : List Literal) (c : Literal) (behind : List Literal) → take (length before) (before ++ c ∷ behind) ≡ before
 before-is [] c behind = refl
@@ -54,40 +43,25 @@ selects-at program literals place h = by (selected program.version literals) ref
               ),
         )
 
-by-first : (literals : List Literal) → 0 < length literals → (first : Literal) × (rest : List Literal) × (literals ≡ first ∷ rest)
-by-first [] some = absurd (omega arith)
-by-first (literal ∷ literals) some = (literal, literals, refl)
+-- literals that are some have a first one
+pub some-first : (literals : List Literal) → 0 < length literals → (first : Literal) × (rest : List Literal) × (literals ≡ first ∷ rest)
+some-first [] some = absurd (omega (arith, some))
+some-first (literal ∷ literals) some = (literal, literals, refl)
 
--- no selection is left
-pub spent-at : (program : Program) (budget given left : ℕ) (goal : Goal) (opens : List OpenGoal) (searches : List SubSearch) → 0 < length goal.literals → left ≡ 0 → IsUnderWay program budget given left opens searches (Some goal) → Advances program budget given (End Spent) left opens searches
-spent-at program budget given left goal opens searches some none way =
-    let begin : (first : Literal) × (rest : List Literal) × (goal.literals ≡ first ∷ rest) = by-first goal.literals some in
-    subst (λ n. Advances program budget given (End Spent) n opens searches) (sym none)
-    (stop-no-answer Spent tt, spent-ends program budget given goal begin.0 begin.1 opens searches begin.2 (subst (λ n. IsUnderWay program budget given n opens searches (Some goal)) none way))
+-- literals with a selected one have a first one
+pub selects-first : (program : Program) (literals : List Literal) (place : ℕ) (literal : Literal) → Selects program literals place literal
+    → (first : Literal) × (rest : List Literal) × (literals ≡ first ∷ rest) × (selected program.version (first ∷ rest) ≡ Some (placed literals place literal))
+selects-first program [] place literal selects = absurd (cc selects.0)
+selects-first program (first ∷ rest) place literal selects = (first, rest, refl, selects.0)
 
--- no literal can be selected
-pub unselected-at : (program : Program) (budget given left : ℕ) (goal : Goal) (opens : List OpenGoal) (searches : List SubSearch) (x : Literal) → 0 < length goal.literals → left ≢ 0 → x ≡ get_or goal.literals 0 x
-    → option_map (λ (picked : Picked Literal). length picked.before) (selected program.version goal.literals) ≡ None → IsUnderWay program budget given left opens searches (Some goal) → Advances program budget given (End (Floundered x.line)) left opens searches
-unselected-at program budget given left goal opens searches x some more read none way =
-    let begin : (first : Literal) × (rest : List Literal) × (goal.literals ≡ first ∷ rest) = by-first goal.literals some in
-    let same : x ≡ begin.0 = read ∙ ap (λ ls. get_or ls 0 x) begin.2 in
-    let one : left ≡ suc (left - 1) = omega arith in
-    let unpicked : selected program.version goal.literals ≡ None = no (selected program.version goal.literals) none in
-    subst (λ n. Advances program budget given (End (Floundered x.line)) n opens searches) (sym one) (
-      stop-no-answer (Floundered x.line) tt,
-      subst (λ l. IsAtEnd program budget given (suc (left - 1)) (Floundered l)) (ap (λ l. l.line) (sym same))
-          (unselected-ends program budget given goal begin.0 begin.1 (left - 1) opens searches begin.2 unpicked (subst (λ n. IsUnderWay program budget given n opens searches (Some goal)) one way)),
-    )
-  where
-    no : (o : Option (Picked Literal)) → option_map (λ (picked : Picked Literal). length picked.before) o ≡ None → o ≡ None
-    no None h = refl
-    no (Some picked) h = absurd (cc h)
+-- two literals that stand at one place are the same
+pub same-at : (literals : List Literal) (place : ℕ) (a b : Literal) → place < length literals → a ≡ get_or literals place a → b ≡ get_or literals place b → a ≡ b
+same-at [] place a b less h k = absurd (omega arith)
+same-at (l ∷ literals) zero a b less h k = h ∙ sym k
+same-at (l ∷ literals) (suc place) a b less h k = same-at literals place a b (omega arith) h k
 
-pub turn-light : (turn : Turn) → turn_weight turn ≤ 2
-turn-light (Visit goal) = omega arith
-turn-light Back = omega arith
-turn-light (Found found) = omega arith
-
-pub task-heavy : (n : ℕ) (task : Task) → 2 ≤ task_weight n task
-task-heavy n (Clauses from) = omega arith
-task-heavy n Search = omega arith
+-- the literal at a place
+pub literal-at : (literals : List Literal) (place : ℕ) → place < length literals → (literal : Literal) × (literal ≡ get_or literals place literal)
+literal-at [] place less = absurd (omega arith)
+literal-at (l ∷ literals) zero less = (l, refl)
+literal-at (l ∷ literals) (suc place) less = literal-at literals place (omega arith)

@@ -1,8 +1,8 @@
 -- What a machine's turns keep.
 use Rattle.std.specs.List.{AllByRecursion}
 use Rattle.std.specs.Prelude.{Result, Ok, Err, IfOk, reverse, slice_get}
-use Rattle.std.proofs.Common.{◌≡◌, ℕ, zero, suc, ◌+◌, ◌*◌, ◌<◌, ◌≤◌, List, [], ◌∷◌, ◌++◌, take, drop, length, Some, refl, sym, ap, subst, ◌∙◌, mul-le-mul, le_refl, arith}
-use Rattle.std.proofs.lemmas.List.{reverse-append}
+use Rattle.std.proofs.Common.{◌≡◌, ℕ, zero, suc, ◌+◌, ◌-◌, ◌*◌, ◌<◌, ◌≤◌, List, [], ◌∷◌, ◌++◌, take, drop, length, Some, refl, sym, ap, subst, ◌∙◌, mul-le-mul, le_refl, arith}
+use Rattle.std.proofs.lemmas.List.{reverse-append, length-take}
 use Rattle.le_subst.specs.Solution.{run, solve_of}
 use Rattle.le_subst.specs.Unifiers.{Bindings, value_at}
 use Rattle.le_terms.specs.Tree.{Tree}
@@ -11,14 +11,14 @@ use Rattle.le_terms.specs.declared.program.Form.{Form}
 use Rattle.le_terms.specs.declared.program.Form.TheVariants.{Pos, Neg, Calc, Gather}
 use Rattle.le_terms.specs.declared.program.Literal.{Literal}
 use Rattle.le_proofs.specs.Goals.{Goal, form_under, literals_under, terms_under}
-use Rattle.le_proofs.specs.Search.{Outcome, goes_on, fails, ends, by_solution}
+use Rattle.le_proofs.specs.Search.{goes_on, by_solution}
 use Rattle.le_proofs.proofs.Alls.{all-both, all-left, all-right}
 use Rattle.le_machine.specs.declared.goals.Goal as code
 use Rattle.le_machine.specs.declared.goals.OpenGoal.{OpenGoal}
-use Rattle.le_machine.specs.declared.goals.Turn.{Turn}
-use Rattle.le_machine.specs.declared.goals.Turn.TheVariants.{Visit, Back, Found}
-use Rattle.le_machine.specs.Keeping.{goal_of, put_at, goal_with, IsComputable, AreComputable, IsReady, IsOpen, AreOpen}
-use Rattle.le_machine.specs.Turns.{TurnsBy, IsReadyTurn, task_weight, opens_weight}
+use Rattle.le_machine.specs.declared.goals.Searches.{Searches}
+use Rattle.le_machine.specs.declared.goals.Waiting.{Waiting}
+use Rattle.le_machine.specs.Keeping.{goal_of, put_at, goal_with, IsComputable, AreComputable, IsReady, IsOpen, AreOpen, CanWait, CanWaitAll, AreReady}
+use Rattle.le_machine.specs.Turns.{opens_weight, waiting_weight}
 
 -- computed literals stay so under a substitution
 length-under : (by : ℕ → Tree) (trees : List Tree) → length (terms_under by trees) ≡ length trees
@@ -53,18 +53,18 @@ put-computable literals place new h more =
 pub with-computable : (goal : Goal) (place next : ℕ) (new : List Literal) (bindings : Bindings) → AreComputable goal.literals → AreComputable new → AreComputable (goal_with goal place next new bindings).literals
 with-computable goal place next new bindings h more = under-computable (value_at bindings) (put_at goal.literals place new) (put-computable goal.literals place new h more)
 
--- what is visited next is ready where the goal was
-pub turn-ready : (left : ℕ) (goal : code.Goal) (place : ℕ) (outcome : Outcome) (turn : Turn) → TurnsBy (goal_of goal) place outcome turn → IsReady left goal → IsReadyTurn left turn
-turn-ready left goal place (goes_on bindings) (Visit next) h ready =
-    let same : next.next ≡ goal.next = ap (λ g. g.next) h in
+-- a goal without a literal, under a unifier, is ready where it was
+pub rest-ready : (left : ℕ) (goal rest : code.Goal) (place : ℕ) (bindings : Bindings) → goal_of rest ≡ goal_with (goal_of goal) place goal.next [] bindings → IsReady left goal → IsReady left rest
+rest-ready left goal rest place bindings same ready =
+    let next : rest.next ≡ goal.next = ap (λ g. g.next) same in
     record {
       low = let low_ : goal.next + 64 * left ≤ 64000064 = ready.low in omega arith;
-      computable = subst AreComputable (sym (ap (λ g. g.literals) h)) (with-computable (goal_of goal) place goal.next [] bindings ready.computable tt);
+      computable = subst AreComputable (sym (ap (λ g. g.literals) same)) (with-computable (goal_of goal) place goal.next [] bindings ready.computable tt);
     }
-turn-ready left goal place (goes_on bindings) Back h ready = tt
-turn-ready left goal place (goes_on bindings) (Found answer) h ready = tt
-turn-ready left goal place fails turn h ready = subst (IsReadyTurn left) (sym h) tt
-turn-ready left goal place (ends e) turn h ready = subst (IsReadyTurn left) (sym h.1) tt
+
+-- a place of some literals has that many literals before it
+pub place-long : (literals : List Literal) (place : ℕ) → place < length literals → length (take place literals) ≡ place
+place-long literals place inside = length-take place literals ∙ (omega (arith, inside))
 
 pub ready-fewer : (left less : ℕ) (goal : code.Goal) → less ≤ left → IsReady left goal → IsReady less goal
 ready-fewer left less goal fewer ready = record {
@@ -72,22 +72,43 @@ ready-fewer left less goal fewer ready = record {
   computable = ready.computable;
 }
 
-pub open-fewer : (left less : ℕ) (opens : List OpenGoal) → less ≤ left → AreOpen left opens → AreOpen less opens
-open-fewer left less [] fewer h = tt
-open-fewer left less (pending ∷ opens) fewer h = (record { ready = ready-fewer (suc left) (suc less) pending.goal (omega arith) h.0.ready; inside = h.0.inside }, open-fewer left less opens fewer h.1)
+pub open-fewer : (left less : ℕ) (goal : code.Goal) (place : ℕ) → less ≤ left → IsOpen left goal place → IsOpen less goal place
+open-fewer left less goal place fewer h = record { ready = ready-fewer (suc left) (suc less) goal (omega arith) h.ready; inside = h.inside }
 
-pub open-push : (left : ℕ) (opens : List OpenGoal) (pending : OpenGoal) → AreOpen left opens → IsOpen left pending → AreOpen left (opens ++ pending ∷ [])
-open-push left opens pending h one = all-both (IsOpen left) opens (pending ∷ []) h (one, tt)
+pub opens-fewer : (left less : ℕ) (opens : List OpenGoal) → less ≤ left → AreOpen left opens → AreOpen less opens
+opens-fewer left less [] fewer h = tt
+opens-fewer left less (kept ∷ opens) fewer h = (open-fewer left less kept.goal kept.place fewer h.0, opens-fewer left less opens fewer h.1)
 
-pub open-front : (left : ℕ) (opens : List OpenGoal) (pending : OpenGoal) → AreOpen left (opens ++ pending ∷ []) → AreOpen left opens
-open-front left opens pending h = all-left (IsOpen left) opens (pending ∷ []) h
+waiting-fewer : (left less : ℕ) (around : List Waiting) → less ≤ left → CanWaitAll left around → CanWaitAll less around
+waiting-fewer left less [] fewer h = tt
+waiting-fewer left less (waiting ∷ around) fewer h = (
+  record { goal = open-fewer left less waiting.goal waiting.place fewer h.0.goal; opens = opens-fewer left less waiting.search.opens.items fewer h.0.opens },
+  waiting-fewer left less around fewer h.1,
+)
 
-pub open-last : (left : ℕ) (opens : List OpenGoal) (pending : OpenGoal) → AreOpen left (opens ++ pending ∷ []) → IsOpen left pending
-open-last left opens pending h = (all-right (IsOpen left) opens (pending ∷ []) h).0
+pub all-fewer : (left less : ℕ) (searches : Searches) → less ≤ left → AreReady left searches → AreReady less searches
+all-fewer left less searches fewer h = record { opens = opens-fewer left less searches.inner.opens.items fewer h.opens; waiting = waiting-fewer left less searches.waiting.items fewer h.waiting }
 
-pub weight-push : (clauses : ℕ) (opens : List OpenGoal) (pending : OpenGoal) → opens_weight clauses (opens ++ pending ∷ []) ≡ task_weight clauses pending.task + opens_weight clauses opens
-weight-push clauses [] pending = refl
-weight-push clauses (first ∷ opens) pending = let rest : opens_weight clauses (opens ++ pending ∷ []) ≡ task_weight clauses pending.task + opens_weight clauses opens = weight-push clauses opens pending in omega arith
+-- of open goals and searches that wait, the newest last
+pub opens-front : (left : ℕ) (opens : List OpenGoal) (kept : OpenGoal) → AreOpen left (opens ++ kept ∷ []) → AreOpen left opens
+opens-front left opens kept h = all-left (λ k. IsOpen left k.goal k.place) opens (kept ∷ []) h
+
+pub opens-last : (left : ℕ) (opens : List OpenGoal) (kept : OpenGoal) → AreOpen left (opens ++ kept ∷ []) → IsOpen left kept.goal kept.place
+opens-last left opens kept h = (all-right (λ k. IsOpen left k.goal k.place) opens (kept ∷ []) h).0
+
+pub waiting-front : (left : ℕ) (around : List Waiting) (waiting : Waiting) → CanWaitAll left (around ++ waiting ∷ []) → CanWaitAll left around
+waiting-front left around waiting h = all-left (CanWait left) around (waiting ∷ []) h
+
+pub waiting-last : (left : ℕ) (around : List Waiting) (waiting : Waiting) → CanWaitAll left (around ++ waiting ∷ []) → CanWait left waiting
+waiting-last left around waiting h = (all-right (CanWait left) around (waiting ∷ []) h).0
+
+pub weight-push : (clauses : ℕ) (opens : List OpenGoal) (kept : OpenGoal) → opens_weight clauses (opens ++ kept ∷ []) ≡ (2 * (clauses - kept.from) + 2) + opens_weight clauses opens
+weight-push clauses [] kept = refl
+weight-push clauses (first ∷ opens) kept = let rest : opens_weight clauses (opens ++ kept ∷ []) ≡ (2 * (clauses - kept.from) + 2) + opens_weight clauses opens = weight-push clauses opens kept in omega arith
+
+pub waiting-push : (clauses : ℕ) (around : List Waiting) (waiting : Waiting) → waiting_weight clauses (around ++ waiting ∷ []) ≡ (2 + opens_weight clauses waiting.search.opens.items) + waiting_weight clauses around
+waiting-push clauses [] waiting = refl
+waiting-push clauses (first ∷ around) waiting = let rest : waiting_weight clauses (around ++ waiting ∷ []) ≡ (2 + opens_weight clauses waiting.search.opens.items) + waiting_weight clauses around = waiting-push clauses around waiting in omega arith
 
 pub newest : {X : Type 0} (xs : List X) (x : X) → reverse (xs ++ x ∷ []) ≡ x ∷ reverse xs
 newest xs x = reverse-append xs (x ∷ [])

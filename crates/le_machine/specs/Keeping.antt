@@ -1,29 +1,57 @@
--- What a machine keeps, and the search under way that it is.
-use Rattle.std.specs.Prelude.{◌≡◌, ℕ, suc, ◌+◌, ◌*◌, ◌≤◌, ◌<◌, List, [], ◌∷◌, ◌++◌, take, drop, length, map, get_or, slice_get, Some, Option, option_map}
+-- What a machine keeps, and the walks of trees under way that it is.
+use Rattle.std.specs.Prelude.{◌≡◌, Bool, true, false, ℕ, suc, ◌+◌, ◌*◌, ◌≤◌, ◌<◌, List, [], ◌∷◌, ◌++◌, take, drop, length, map, get_or, slice_get, reverse, Some, None, Option}
 use Rattle.std.specs.List.{AllByRecursion}
 use Rattle.le_base.specs.declared.stop.FoldKind.{FoldKind}
 use Rattle.le_terms.specs.Tree.{Tree}
 use Rattle.le_terms.specs.declared.program.Atom.{Atom}
+use Rattle.le_terms.specs.declared.program.Clause.{Clause}
 use Rattle.le_terms.specs.declared.program.Form.{Form}
 use Rattle.le_terms.specs.declared.program.Form.TheVariants.{Pos, Neg, Calc, Gather}
 use Rattle.le_terms.specs.declared.program.Literal.{Literal}
 use Rattle.le_terms.specs.declared.program.Program.{Program}
 use Rattle.le_terms.specs.Program.{predefined_arities}
 use Rattle.le_subst.specs.Unifiers.{Bindings, value_at}
-use Rattle.le_proofs.specs.Goals.{Goal, Picked, Child, selected, children, literals_under, terms_under}
-use Rattle.le_proofs.specs.Proofs.{Step}
-use Rattle.le_proofs.specs.SearchTree.{Event, leaves_of}
-use Rattle.le_proofs.specs.Search.{search_of, value_of}
-use Rattle.le_proofs.specs.UnderWay.{Asking, Frame, choice, negation, gather, Current, under_way, outermost, IsQuiet}
+use Rattle.le_proofs.specs.declared.node.Node.{Node}
+use Rattle.le_proofs.specs.declared.node.Node.TheVariants.{Split}
+use Rattle.le_proofs.specs.Goals.{Goal, Picked, Child, selected, children, literals_under, terms_under, sub_goal, root_of, is_ground_atom}
+use Rattle.le_proofs.specs.Proofs.{Step, Leaf}
+use Rattle.le_proofs.specs.Search.{Outcome, goes_on, fails, ends, tree, value_of, is_covered}
+use Rattle.le_derivations.specs.declared.path.PathStep.{PathStep}
+use Rattle.le_derivations.specs.Paths.{AreSteps}
+use Rattle.le_derivations.specs.Walks.{Choice, walk_of, walk_under_way}
 use Rattle.le_machine.specs.declared.goals.Goal as code
+use Rattle.le_machine.specs.declared.goals.Child as code_child
+use Rattle.le_machine.specs.declared.goals.Outcome as code_outcome
+use Rattle.le_machine.specs.declared.goals.Outcome.TheVariants.{GoesOn, Fails, Ends}
+use Rattle.le_machine.specs.declared.goals.Kind.{Kind}
+use Rattle.le_machine.specs.declared.goals.Kind.TheVariants.{Atom as Atomic, Computed, Searched}
 use Rattle.le_machine.specs.declared.goals.OpenGoal.{OpenGoal}
-use Rattle.le_machine.specs.declared.goals.Task.TheVariants.{Clauses, Search}
+use Rattle.le_machine.specs.declared.goals.Search.{Search}
+use Rattle.le_machine.specs.declared.goals.Searches.{Searches}
 use Rattle.le_machine.specs.declared.goals.SubSearch.{SubSearch}
 use Rattle.le_machine.specs.declared.goals.SubSearch.TheVariants.{Negation, Gather as Gathering}
+use Rattle.le_machine.specs.declared.goals.Waiting.{Waiting}
 
 -- a machine's goal as the goal that it is
 abbrev pub goal_of : code.Goal → Goal
 goal_of goal = record { next = goal.next; literals = goal.literals.items; terms = goal.terms.items }
+
+-- a machine's child as the child that it is
+abbrev pub child_of : code_child.Child → Child
+child_of child = record { clause = child.clause; count = child.count; unifier = child.unifier; goal = goal_of child.goal }
+
+-- what becomes of a literal
+abbrev pub outcome_of : code_outcome.Outcome → Outcome
+outcome_of (GoesOn unifier) = goes_on unifier
+outcome_of Fails = fails
+outcome_of (Ends next) = ends next
+
+-- what kind of literal one of this form is
+abbrev pub kind_of : Form → Kind
+kind_of (Pos atom) = Atomic
+kind_of (Neg atom) = Searched
+kind_of (Calc atom) = Computed
+kind_of (Gather fold result value atom) = Searched
 
 -- the literal at a place of some literals, with those before it and those after it
 abbrev pub placed : List Literal → ℕ → Literal → Picked Literal
@@ -45,69 +73,94 @@ goal_with goal place next new bindings = record {
 abbrev pub Selects : Program → List Literal → ℕ → Literal → Type 0
 Selects program literals place literal = (selected program.version literals ≡ Some (placed literals place literal)) × (literal ≡ get_or literals place literal)
 
--- an open goal is one whose children by the clauses that weren't tried are still to be visited
-pub record IsChoice (program : Program) (pending : OpenGoal) (place : ℕ) (atom : Atom) (others : List Child) : Type 0 where
+-- the children of a goal by the clauses from a place on
+abbrev pub children_from : Goal → ℕ → Literal → Atom → List Clause → ℕ → List Child
+children_from goal place literal atom clauses from = children goal (placed goal.literals place literal) atom (from + 1) (drop from clauses)
+
+-- an open goal, to which these steps led, is one whose children by the clauses that weren't tried are still to be visited
+pub record IsOpenGoal (program : Program) (kept : OpenGoal) (choice : Choice) (front : List PathStep) : Type 0 where
   pub literal : Literal
-  pub selects : Selects program pending.goal.literals.items pending.place literal
-  pub form : literal.form ≡ Pos atom
-  pub place_ : place ≡ length (take pending.place pending.goal.literals.items)
-  pub from : ℕ
-  pub task : pending.task ≡ Clauses from
-  pub others_ : others ≡ children (goal_of pending.goal) (placed pending.goal.literals.items pending.place literal) atom (from + 1) (drop from program.clauses)
+  pub selects : Selects program kept.goal.literals.items kept.place literal
+  pub form : literal.form ≡ Pos choice.atom
+  pub place_ : choice.place ≡ length (take kept.place kept.goal.literals.items)
+  pub others_ : choice.others ≡ children_from (goal_of kept.goal) kept.place literal choice.atom program.clauses kept.from
+  pub steps_ : AreSteps (reverse front) choice.path
 
--- an open goal is the one of a search that began at its selected literal
-pub record IsAsking (program : Program) (pending : OpenGoal) (asking : Asking) : Type 0 where
-  pub selects : Selects program pending.goal.literals.items pending.place asking.picked.chosen
-  pub picked_ : asking.picked ≡ placed pending.goal.literals.items pending.place asking.picked.chosen
-  pub goal_ : asking.goal ≡ goal_of pending.goal
-  pub task : pending.task ≡ Search
+-- the open goals of a search, the newest first, are these choices; the steps to each are the first ones of those to the next one
+abbrev pub AreOpenGoals : Program → List Choice → List OpenGoal → List PathStep → Type 0
+AreOpenGoals program [] opens path = opens ≡ []
+AreOpenGoals program (choice ∷ choices) [] path = ⊥
+AreOpenGoals program (choice ∷ choices) (kept ∷ opens) path =
+    (kept.steps ≤ length path) × IsOpenGoal program kept choice (take kept.steps path) × AreOpenGoals program choices opens (take kept.steps path)
 
--- so is it, and the literal is a negation
-pub record IsNegation (program : Program) (pending : OpenGoal) (search : SubSearch) (asking : Asking) : Type 0 where
-  pub asks : IsAsking program pending asking
-  pub form : asking.picked.chosen.form ≡ Neg asking.atom
-  pub search_ : search ≡ Negation
+-- the node of an open goal stands among some nodes, after others of which this holds, with the children that are still to be visited in its count
+pub record HasSplit (kept : OpenGoal) (others : ℕ) (noted nodes : List Node) (holds : List Node → Type 0) : Type 0 where
+  pub before : List Node
+  pub shown : Node
+  pub after : List Node
+  pub inside : kept.split < length noted
+  pub noted_ : noted ≡ take kept.split noted ++ (shown ∷ after)
+  pub nodes_ : nodes ≡ before ++ (Split (kept.children + others) ∷ after)
+  pub before_ : holds before
 
--- the search of a gather has these values so far
-abbrev pub HasValues : SubSearch → List Tree → Type 0
-HasValues Negation values = ⊥
-HasValues (Gathering found) values = found.items ≡ values
+-- the nodes that were noted are these nodes but for the counts of the open goals
+abbrev pub AreNodes : List Choice → List OpenGoal → List Node → List Node → Type 0
+AreNodes [] opens noted nodes = noted ≡ nodes
+AreNodes (choice ∷ choices) [] noted nodes = ⊥
+AreNodes (choice ∷ choices) (kept ∷ opens) noted nodes = HasSplit kept (length choice.others) noted nodes (AreNodes choices opens (take kept.split noted))
 
--- so is it, and the literal is a gather, at whose success leaves so far these values were found
-pub record IsGather (program : Program) (pending : OpenGoal) (search : SubSearch) (asking : Asking) (fold : FoldKind) (result value : Tree) (values : List Tree) : Type 0 where
-  pub asks : IsAsking program pending asking
-  pub form : asking.picked.chosen.form ≡ Gather fold result value asking.atom
-  pub search_ : HasValues search values
+-- steps that are kept lead to the goal that is visited next
+abbrev pub LeadTo : Option Goal → List PathStep → List Step → Type 0
+LeadTo None path steps = Unit {0}
+LeadTo (Some goal) path steps = AreSteps (reverse path) steps
 
--- a list has a first item, of which and of the others this holds
-abbrev pub OnCons : {X : Type 0} → List X → (X → List X → Type 0) → Type 0
-OnCons [] holds = ⊥
-OnCons (x ∷ xs) holds = holds x xs
+-- what is kept of a search, the newest open goal first, is the walk of a goal's tree under way
+pub record IsWalk (program : Program) (keeps : Bool) (path : List PathStep) (noted : List Node) (opens : List OpenGoal) (root : Goal) (total : ℕ) (current : Option Goal) (left : ℕ) (found : List Leaf) : Type 0 where
+  pub choices : List Choice
+  pub nodes : List Node
+  pub steps : List Step
+  pub walk : walk_under_way program choices found nodes steps current left ≡ walk_of (tree program root total)
+  pub opens_ : AreOpenGoals program choices opens path
+  pub nodes_ : keeps ≡ true → AreNodes choices opens noted nodes
+  pub steps_ : LeadTo current path steps
 
--- the open goals and the searches of atoms, the newest first, are these frames, where this happened in the innermost search
-abbrev pub AreFrames : Program → List Frame → List OpenGoal → List SubSearch → List Event → Type 0
-AreFrames program [] opens searches passed = (opens ≡ []) × (searches ≡ [])
-AreFrames program (choice path place atom others ∷ frames) opens searches passed =
-    OnCons opens (λ pending rest. IsChoice program pending place atom others × AreFrames program frames rest searches passed)
-AreFrames program (negation before asking ∷ frames) opens searches passed =
-    OnCons opens (λ pending rest. OnCons searches (λ search outer. IsNegation program pending search asking × AreFrames program frames rest outer before))
-AreFrames program (gather before asking fold result value ∷ frames) opens searches passed =
-    OnCons opens (λ pending rest. OnCons searches (λ search outer. IsGather program pending search asking fold result value (map value_of (leaves_of passed)) × AreFrames program frames rest outer before))
+-- a search is the walk under way of the tree of a goal with so many selections, that found these leaves
+abbrev pub Walks : Program → Search → Goal → ℕ → Option Goal → ℕ → List Leaf → Type 0
+Walks program search root total current left found =
+    IsWalk program search.keeps search.path.items search.nodes.items (reverse search.opens.items) root total current left found
 
--- the goal that is visited next, with its path
-abbrev pub with_path : List Step → Option Goal → Option Current
-with_path path current = option_map (λ goal. record { path = path; goal = goal }) current
+-- the search of an atom is for a literal of this form
+abbrev pub IsFor : SubSearch → Form → Atom → List Tree → List Leaf → Type 0
+IsFor Negation form atom terms found = (form ≡ Neg atom) × (is_ground_atom atom ≡ true) × (terms ≡ []) × (found ≡ [])
+IsFor (Gathering values) form atom terms found =
+    (fold : FoldKind) × (result : Tree) × (value : Tree) × (form ≡ Gather fold result value atom) × (is_covered value atom ≡ true) × (terms ≡ value ∷ []) × (values.items ≡ map value_of found)
 
--- what a machine keeps, the newest first, is a search under way that comes to the whole search
-pub record IsUnderWay (program : Program) (budget given left : ℕ) (opens : List OpenGoal) (searches : List SubSearch) (current : Option Goal) : Type 0 where
-  pub frames : List Frame
-  pub passed : List Event
-  pub path : List Step
-  pub are : AreFrames program frames opens searches passed
-  pub whole : under_way program frames passed (with_path path current) left ≡ search_of program budget
-  pub quiet : IsQuiet frames passed
-  pub count : length (leaves_of (outermost frames passed)) ≡ given
-  pub fits : left ≤ budget
+-- a search is that of the query
+pub record IsMain (program : Program) (budget given : ℕ) (search : Search) (current : Option Goal) (left : ℕ) : Type 0 where
+  pub found : List Leaf
+  pub inner : Walks program search (root_of program) budget current left found
+  pub count : length found ≡ given
+  pub keeps : search.keeps ≡ false
+
+-- a search is that of the atom of a literal, for which another search waits
+pub record IsAsked (program : Program) (waiting : Waiting) (search : Search) (current : Option Goal) (left : ℕ) : Type 0 where
+  pub literal : Literal
+  pub atom : Atom
+  pub terms : List Tree
+  pub found : List Leaf
+  pub spare : ℕ
+  pub selects : Selects program waiting.goal.literals.items waiting.place literal
+  pub purpose : IsFor waiting.sub literal.form atom terms found
+  pub inner : Walks program search (sub_goal (goal_of waiting.goal) literal.line atom terms) spare current left found
+  pub keeps : search.keeps ≡ true
+
+-- a search and those that wait around it, the innermost first, are the search of the query under way
+abbrev pub IsUnderWay : Program → ℕ → ℕ → List Waiting → Search → Option Goal → ℕ → Type 0
+IsUnderWay program budget given [] search current left = IsMain program budget given search current left
+IsUnderWay program budget given (waiting ∷ around) search current left =
+    (asked : IsAsked program waiting search current left) × IsUnderWay program budget given around waiting.search (Some (goal_of waiting.goal)) (suc asked.spare)
+
+-- ---- what keeps numbers low, and computed literals computable
 
 -- a computed literal's predicate is a computed one, with its number of arguments
 abbrev pub IsComputable : Form → Type 0
@@ -125,11 +178,24 @@ pub record IsReady (left : ℕ) (goal : code.Goal) : Type 0 where
   pub low : goal.next + 64 * left ≤ 64000064
   pub computable : AreComputable goal.literals.items
 
--- an open goal is so, with one selection more, since it took one itself, and its place is one of its literals
-pub record IsOpen (left : ℕ) (pending : OpenGoal) : Type 0 where
-  pub ready : IsReady (suc left) pending.goal
-  pub inside : pending.place < length pending.goal.literals.items
+-- a goal whose literal at a place was selected is so, with one selection more, since it took one itself
+pub record IsOpen (left : ℕ) (goal : code.Goal) (place : ℕ) : Type 0 where
+  pub ready : IsReady (suc left) goal
+  pub inside : place < length goal.literals.items
 
 -- each open goal is so
 abbrev pub AreOpen : ℕ → List OpenGoal → Type 0
-AreOpen left opens = AllByRecursion (IsOpen left) opens
+AreOpen left opens = AllByRecursion (λ kept. IsOpen left kept.goal kept.place) opens
+
+-- each search that waits, and its goal, is so
+pub record CanWait (left : ℕ) (waiting : Waiting) : Type 0 where
+  pub goal : IsOpen left waiting.goal waiting.place
+  pub opens : AreOpen left waiting.search.opens.items
+
+abbrev pub CanWaitAll : ℕ → List Waiting → Type 0
+CanWaitAll left waiting = AllByRecursion (CanWait left) waiting
+
+-- the goals of all searches are ready
+pub record AreReady (left : ℕ) (searches : Searches) : Type 0 where
+  pub opens : AreOpen left searches.inner.opens.items
+  pub waiting : CanWaitAll left searches.waiting.items

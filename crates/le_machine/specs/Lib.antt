@@ -1,4 +1,3 @@
-pub mod Changing
 pub mod Keeping
 pub mod State
 pub mod Turns

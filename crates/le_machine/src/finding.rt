@@ -1,10 +1,10 @@
-ghost use Rattle.std.specs.Prelude.{◌≡◌, ◌≤◌, ◌<◌, ℕ, length, reverse, Some, IfOk};
+ghost use Rattle.std.specs.Prelude.{◌≤◌, ℕ, IfOk};
 ghost use Rattle.le_terms.specs.Program.{IsProgram};
-ghost use Rattle.le_machine.specs.Keeping.{AreOpen};
+ghost use Rattle.le_machine.specs.Keeping.{AreReady};
 ghost use Rattle.le_machine.specs.State.{Advances};
 ghost use Rattle.le_machine.specs.Turns.{Comes, SettledComes, IsReadyTurn, IsReadySettled};
 
-use crate::goals::{Found, Settled, Stack, Turn};
+use crate::goals::{Found, Searches, Settled, Turn};
 use crate::returning::{back, leaf};
 use crate::visiting::visit;
 use le_terms::Program;
@@ -14,21 +14,21 @@ use std::alloc::{AllocError, Global};
 pub(crate) fn find(
     alloc: Global,
     program: &Program,
-    stack: &mut Stack,
+    searches: &mut Searches,
     left: &mut u32,
     first: Turn,
 ) -> Result<Found, AllocError>
     requires program { IsProgram program.now }
     requires first { IsReadyTurn left.old first }
-    requires opens { AreOpen left.old stack.old.goals.items }
-    ensures found { IfOk result (λ found. (budget given : ℕ) → Comes program.now budget given left.old (reverse stack.old.goals.items) (reverse stack.old.searches.items) first → Advances program.now budget given found left.new (reverse stack.new.goals.items) (reverse stack.new.searches.items)) }
+    requires opens { AreReady left.old searches.old }
+    ensures found { IfOk result (λ found. (budget given : ℕ) → Comes program.now budget given searches.old first left.old → Advances program.now budget given found left.new searches.new) }
     ensures fewer { left.new ≤ left.old }
-    ensures opens { IfOk result (λ found. AreOpen left.new stack.new.goals.items) }
+    ensures opens { IfOk result (λ found. AreReady left.new searches.new) }
 {
     let mut turn = first;
     loop {
-        match settle(alloc, program, stack, *left, turn)? {
-            Settled::Goal(goal) => match visit(alloc, program, stack, left, goal)? {
+        match settle(alloc, program, searches, *left, turn)? {
+            Settled::Goal(goal) => match visit(alloc, program, searches, left, goal)? {
                 Turn::Found(found) => return Ok(found),
                 next => turn = next,
             },
@@ -41,27 +41,27 @@ pub(crate) fn find(
 fn settle(
     alloc: Global,
     program: &Program,
-    stack: &mut Stack,
+    searches: &mut Searches,
     left: u32,
     first: Turn,
 ) -> Result<Settled, AllocError>
     requires program { IsProgram program.now }
     requires first { IsReadyTurn left first }
-    requires opens { AreOpen left stack.old.goals.items }
-    ensures comes { IfOk result (λ settled. (budget given : ℕ) → Comes program.now budget given left (reverse stack.old.goals.items) (reverse stack.old.searches.items) first → SettledComes program.now budget given left (reverse stack.new.goals.items) (reverse stack.new.searches.items) settled) }
+    requires opens { AreReady left searches.old }
+    ensures comes { IfOk result (λ settled. (budget given : ℕ) → Comes program.now budget given searches.old first left → SettledComes program.now budget given searches.new settled left) }
     ensures ready { IfOk result (IsReadySettled left) }
-    ensures opens { IfOk result (λ settled. AreOpen left stack.new.goals.items) }
+    ensures opens { IfOk result (λ settled. AreReady left searches.new) }
 {
     let mut turn = first;
     loop {
         turn = match turn {
             Turn::Found(found) => return Ok(Settled::Found(found)),
-            Turn::Back => back(alloc, program, stack, left)?,
+            Turn::Back => back(alloc, program, searches, left)?,
             Turn::Visit(goal) => {
                 if !goal.literals.is_empty() {
                     return Ok(Settled::Goal(goal));
                 }
-                leaf(alloc, stack, goal.terms)?
+                leaf(alloc, searches, goal.terms)?
             }
         };
     }

@@ -1,11 +1,11 @@
-ghost use Rattle.std.specs.Prelude.{◌≡◌, ◌<◌, length, IfOk};
+ghost use Rattle.std.specs.Prelude.{◌≡◌, IfOk};
 ghost use Rattle.le_gather.specs.Folds.{fold_of};
 ghost use Rattle.le_proofs.specs.Search.{by_fold};
-ghost use Rattle.le_machine.specs.Keeping.{goal_of};
-ghost use Rattle.le_machine.specs.Turns.{TurnsBy};
+ghost use Rattle.le_machine.specs.Keeping.{outcome_of};
+ghost use Rattle.le_machine.specs.Turns.{MayEnd};
 
 use crate::equating::equate;
-use crate::goals::{Found, Goal, Turn};
+use crate::goals::Outcome;
 use le_base::FoldKind;
 use le_gather::{FoldAnswer, fold};
 use le_proofs::Next;
@@ -18,18 +18,16 @@ const MOST_VALUES: usize = 1_000_000_000_000_000_000;
 // The greatest number, 10^18. The least is its negative.
 const GREATEST: i64 = 1_000_000_000_000_000_000;
 
-// What is done next where the search of a gather's atom is done and found these values.
+// What becomes of a gather of this line whose search is done and found these values.
 pub(crate) fn gathered(
     alloc: Global,
-    goal: &Goal,
-    place: usize,
     line: u32,
     kind: FoldKind,
     target: &Term,
     values: &[Term],
-) -> Result<Turn, AllocError>
-    requires inside { place < length goal.now.literals.items }
-    ensures { IfOk result (TurnsBy (goal_of goal.now) place (by_fold line target.now (fold_of kind values.now))) }
+) -> Result<Outcome, AllocError>
+    ensures outcome { IfOk result (λ outcome. outcome_of outcome ≡ by_fold line target.now (fold_of kind values.now)) }
+    ensures ends { IfOk result MayEnd }
 {
     if values.len() > MOST_VALUES {
         return Err(AllocError);
@@ -41,10 +39,10 @@ pub(crate) fn gathered(
                 return Err(AllocError);
             }
             let value = Term::leaf(alloc, Sym::Num(number))?;
-            equate(alloc, goal, place, target, &value)
+            equate(alloc, target, &value)
         }
-        FoldAnswer::No => Ok(Turn::Back),
-        FoldAnswer::Unbound => Ok(Turn::Found(Found::End(Next::Floundered(line)))),
-        FoldAnswer::Range => Ok(Turn::Found(Found::End(Next::OutOfRange(line)))),
+        FoldAnswer::No => Ok(Outcome::Fails),
+        FoldAnswer::Unbound => Ok(Outcome::Ends(Next::Floundered(line))),
+        FoldAnswer::Range => Ok(Outcome::Ends(Next::OutOfRange(line))),
     }
 }

@@ -1,4 +1,6 @@
-use le_proofs::Next;
+use le_derivations::PathStep;
+use le_proofs::{Next, Node};
+use le_subst::Subst;
 use le_terms::{Literal, Term};
 
 // A goal of the search.
@@ -12,42 +14,89 @@ pub(crate) struct Goal {
     pub(crate) terms: Vec<Term>,
 }
 
-// What is still to be done for a selected literal.
-#[derive(Clone, Copy)]
-pub(crate) enum Task {
-    // It is an atom, and the clauses before this place were tried.
-    Clauses(usize),
-    // It is a negation or a gather, whose atom is being searched.
-    Search,
+// What a clause makes of a goal.
+#[derive(Drop)]
+pub(crate) struct Child {
+    // The clause's number, counted from 1.
+    pub(crate) clause: u32,
+    // How many literals its body has.
+    pub(crate) count: u32,
+    // The unifier of its head and the atom.
+    pub(crate) unifier: Subst,
+    // The resolvent.
+    pub(crate) goal: Goal,
 }
 
-// A goal whose selected literal still has something to be done.
+// What becomes of a computed literal, or of the result of a gather.
+#[derive(Drop)]
+pub(crate) enum Outcome {
+    // The goal goes on without it under this unifier.
+    GoesOn(Subst),
+    // It fails.
+    Fails,
+    // The search ends so.
+    Ends(Next),
+}
+
+// A goal whose selected literal is an atom, some of whose clauses are still to be tried.
 #[derive(Drop)]
 pub(crate) struct OpenGoal {
     // The goal.
     pub(crate) goal: Goal,
-    // The place of the selected literal.
+    // The place of the atom.
     pub(crate) place: usize,
-    // What is still to be done for it.
-    pub(crate) task: Task,
+    // The clauses before this place were tried.
+    pub(crate) from: usize,
+    // How many steps of its search led to the goal.
+    pub(crate) steps: usize,
+    // The place of its node among those of its search.
+    pub(crate) split: usize,
+    // How many children were visited.
+    pub(crate) children: u32,
 }
 
-// A search of an atom for a negation or a gather.
+// What a search of an atom is for.
 #[derive(Drop)]
 pub(crate) enum SubSearch {
-    // It ends at its first success leaf.
+    // A negation: it ends at its first success leaf.
     Negation,
-    // It goes on to its end, with the values at its success leaves so far.
+    // A gather: it goes on to its end, with the values at its success leaves so far.
     Gather(Vec<Term>),
 }
 
-// What is still to be done, the newest last.
+// A search under way: that of the query, or that of an atom.
 #[derive(Drop)]
-pub(crate) struct Stack {
-    // The goals that are open.
-    pub(crate) goals: Vec<OpenGoal>,
-    // The searches of atoms that are under way, one for each open goal whose atom is being searched.
-    pub(crate) searches: Vec<SubSearch>,
+pub(crate) struct Search {
+    // Whether its nodes are kept.
+    pub(crate) keeps: bool,
+    // The steps that led to the goal that is visited.
+    pub(crate) path: Vec<PathStep>,
+    // The nodes of what was visited.
+    pub(crate) nodes: Vec<Node>,
+    // The goals that are open, the newest last.
+    pub(crate) opens: Vec<OpenGoal>,
+}
+
+// A search that waits for that of the atom of a literal.
+#[derive(Drop)]
+pub(crate) struct Waiting {
+    // The search.
+    pub(crate) search: Search,
+    // Its goal with the literal.
+    pub(crate) goal: Goal,
+    // The literal's place.
+    pub(crate) place: usize,
+    // What the search of the atom is for.
+    pub(crate) sub: SubSearch,
+}
+
+// The searches under way.
+#[derive(Drop)]
+pub(crate) struct Searches {
+    // The innermost one.
+    pub(crate) inner: Search,
+    // Those around it that wait, the outermost first.
+    pub(crate) waiting: Vec<Waiting>,
 }
 
 // What the visit of goals finds.
@@ -70,15 +119,15 @@ pub(crate) enum Turn {
     Found(Found),
 }
 
-// What becomes of a goal whose literal is selected.
-#[derive(Drop)]
-pub(crate) enum Selection {
-    // It is an atom: the goal is left open, and its clauses are to be tried.
-    Clauses,
-    // The goal is left open, and such a search of its atom begins with this goal.
-    Searches(SubSearch, Goal),
-    // The goal isn't needed any more, and this is done next.
-    Passes(Turn),
+// What kind of literal is selected.
+#[derive(Clone, Copy)]
+pub(crate) enum Kind {
+    // An atom, whose clauses are tried.
+    Atom,
+    // A computed one.
+    Computed,
+    // A negation or a gather, whose atom is searched.
+    Searched,
 }
 
 // What a machine comes to without a selection.

@@ -1,8 +1,6 @@
 //! The search of a program: its answers one after another, and how it ends. Goals are whole terms.
 #![tactic(auto)]
 
-mod changing;
-mod covering;
 mod equating;
 mod finding;
 mod gathering;
@@ -11,6 +9,7 @@ mod machine;
 mod phase;
 mod resolving;
 mod returning;
+mod searching;
 mod selecting;
 mod starting;
 #[cfg(test)]

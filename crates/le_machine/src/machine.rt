@@ -1,15 +1,17 @@
-ghost use Rattle.std.specs.Prelude.{◌≡◌, ◌≤◌, ℕ, List, reverse, Some, IfOk, OnOk, OnErr, IsErr};
+ghost use Rattle.std.specs.Prelude.{◌≡◌, ◌≤◌, ℕ, List, Some, IfOk, OnOk, OnErr, IsErr};
 ghost use Rattle.le_terms.specs.Program.{IsProgram};
 ghost use Rattle.le_machine.specs.declared.phase.Phase.TheVariants.{Told, Lost};
 ghost use Rattle.le_proofs.specs.declared.next.Next.TheVariants.{Answer};
-ghost use Rattle.le_machine.specs.State.{started, next_answer, told, lost, last_values, Selections, Stands, CanAdvance, Advances, AdvancesFor};
+ghost use Rattle.le_machine.specs.State.{started, next_answer, told, lost, last_values, last_derivation, Selections, Stands, CanAdvance, Advances, AdvancesFor};
 ghost use Rattle.le_terms.specs.Tree.{Tree};
 
 use crate::finding::find;
-use crate::goals::{Found, Stack, Turn};
+use crate::goals::{Found, Searches, Turn};
 use crate::phase::Phase;
+use crate::searching::begun;
 use crate::starting::root;
-use le_proofs::Next;
+use le_derivations::derivation_of;
+use le_proofs::{Derivation, Next};
 use le_terms::{Program, Term, canonical};
 use std::alloc::{AllocError, Global};
 use std::marker::Model;
@@ -24,7 +26,7 @@ pub struct Machine<'p> {
     given: u64,
     phase: Phase,
     left: u32,
-    stack: Stack,
+    searches: Searches,
     terms: Vec<Term>,
 }
 
@@ -39,7 +41,7 @@ impl<'p> Model for Machine<'p> {
 
     ghost view = { λ m. record { program = m.program.now; budget = m.budget; given = m.given; phase = m.phase } };
 
-    ghost invariant = { λ m. IsMachine m.program.now m.budget m.given m.phase m.left m.stack m.terms.items };
+    ghost invariant = { λ m. IsMachine m.program.now m.budget m.given m.phase m.left m.searches m.terms.items };
 }
 
 impl<'p> Machine<'p> {
@@ -60,9 +62,9 @@ impl<'p> Machine<'p> {
             given: 0,
             phase: Phase::Fresh,
             left: budget,
-            stack: Stack {
-                goals: Vec::new(alloc),
-                searches: Vec::new(alloc),
+            searches: Searches {
+                inner: begun(alloc, false),
+                waiting: Vec::new(alloc),
             },
             terms: Vec::new(alloc),
         })
@@ -81,7 +83,7 @@ impl<'p> Machine<'p> {
             alloc,
             self.program,
             self.phase,
-            &mut self.stack,
+            &mut self.searches,
             &mut self.left,
         );
         match found {
@@ -112,6 +114,15 @@ impl<'p> Machine<'p> {
         canonical(alloc, &self.terms)
     }
 
+    /// The derivation of the last answer, with the variables numbered from 1 by first occurrence, first in its
+    /// values and then in its nodes. The last call of `next` answered `Answer`.
+    pub fn derivation(&self, alloc: Global) -> Result<Derivation, AllocError>
+        requires { self.now.phase ≡ Told Answer }
+        ensures { IfOk result (λ derivation. last_derivation self.now ≡ Some derivation.nodes) }
+    {
+        derivation_of(alloc, &self.searches.inner.path, &self.terms)
+    }
+
     /// How many selections the search made up to the answer or the end that the last call of `next`
     /// gave, and 0 before the first. After want of memory it is some number. It takes no memory.
     pub fn selections(&self) -> u32
@@ -127,22 +138,22 @@ fn advance(
     alloc: Global,
     program: &Program,
     phase: Phase,
-    stack: &mut Stack,
+    searches: &mut Searches,
     left: &mut u32,
 ) -> Result<Found, AllocError>
     requires program { IsProgram program.now }
-    requires ready { CanAdvance phase left.old stack.old }
-    ensures found { IfOk result (λ found. (budget given : ℕ) (terms : List Tree) → budget ≤ 1000000 → Stands phase program.now budget given left.old stack.old terms → Advances program.now budget given found left.new (reverse stack.new.goals.items) (reverse stack.new.searches.items)) }
+    requires ready { CanAdvance phase left.old searches.old }
+    ensures found { IfOk result (λ found. (budget given : ℕ) (terms : List Tree) → budget ≤ 1000000 → Stands phase program.now budget given left.old searches.old terms → Advances program.now budget given found left.new searches.new) }
     ensures fewer { left.new ≤ left.old }
-    ensures opens { IfOk result (λ found. AdvancesFor found left.new stack.new) }
+    ensures opens { IfOk result (λ found. AdvancesFor found left.new searches.new) }
     ensures for_good { phase ≡ Lost → IsErr result }
 {
     match phase {
         Phase::Fresh => {
             let goal = root(alloc, program)?;
-            find(alloc, program, stack, left, Turn::Visit(goal))
+            find(alloc, program, searches, left, Turn::Visit(goal))
         }
-        Phase::Told(Next::Answer) => find(alloc, program, stack, left, Turn::Back),
+        Phase::Told(Next::Answer) => find(alloc, program, searches, left, Turn::Back),
         Phase::Told(next) => Ok(Found::End(next)),
         Phase::Lost => Err(AllocError),
     }

@@ -1,33 +1,41 @@
 ghost use Rattle.std.specs.Prelude.{◌≡◌, ◌+◌, ◌^◌, ◌<◌, ◌≤◌, length, zip, option_map, IfOk, IfSome};
 ghost use Rattle.le_terms.specs.Variables.{all_occurrences};
 ghost use Rattle.le_terms.specs.Program.{IsClause};
-ghost use Rattle.le_proofs.specs.Goals.{terms_under, literals_under, raised, head_solution};
-ghost use Rattle.le_machine.specs.Changing.{CanRaise};
-ghost use Rattle.le_machine.specs.Keeping.{goal_of, goal_with, AreComputable};
+ghost use Rattle.le_terms.specs.declared.program.Literal.{Literal as AnyLiteral};
+ghost use Rattle.le_proofs.specs.Goals.{terms_under, literals_under, raised, head_solution, child_by};
+ghost use Rattle.le_literals.specs.Changing.{CanRaise};
+ghost use Rattle.le_machine.specs.Keeping.{goal_of, child_of, placed, goal_with};
 
-use crate::changing::{Change, changed_terms, push_changed, raised_term};
-use crate::goals::Goal;
+use crate::goals::{Child, Goal};
+use le_literals::{Change, changed_terms, push_changed, raised_term};
 use le_subst::{Subst, solve};
 use le_terms::{Atom, Clause, Literal, Term};
 use std::alloc::{AllocError, Global};
 
-// The resolvent of a goal by a clause, where this is the atom at this place, or none where the head doesn't
-// unify with it.
+// The child of a goal by the clause of this number, where this is the atom at this place, or none where the head
+// doesn't unify with it.
 pub(crate) fn resolve(
     alloc: Global,
     goal: &Goal,
     place: usize,
     atom: &Atom,
+    number: u32,
     clause: &Clause,
-) -> Result<Option<Goal>, AllocError>
+) -> Result<Option<Child>, AllocError>
     requires clause { IsClause clause.now }
+    requires short { length clause.now.body < 2 ^ 31 }
     requires fits { goal.now.next + 64 < 2 ^ 32 }
     requires inside { place < length goal.now.literals.items }
-    ensures { IfOk result (λ answer. option_map goal_of answer ≡ option_map (goal_with (goal_of goal.now) place (goal.now.next + clause.now.vars) (literals_under (raised goal.now.next) clause.now.body)) (head_solution goal.now.next clause.now atom.now)) }
+    ensures { IfOk result (λ answer. (literal : AnyLiteral) → option_map child_of answer ≡ option_map (child_by (goal_of goal.now) (placed goal.now.literals.items place literal) number clause.now) (head_solution goal.now.next clause.now atom.now)) }
 {
     match unify_head(alloc, goal.next, clause, atom)? {
         None => Ok(None),
-        Some(subst) => Ok(Some(resolved(alloc, goal, place, clause, &subst)?)),
+        Some(unifier) => Ok(Some(Child {
+            clause: number,
+            count: clause.body.as_slice().len() as u32,
+            goal: resolved(alloc, goal, place, clause, &unifier)?,
+            unifier,
+        })),
     }
 }
 

@@ -1,8 +1,10 @@
-ghost use Rattle.std.specs.Prelude.{◌≡◌, ◌==◌, length, option_map};
-ghost use Rattle.le_terms.specs.Variables.{occurrences};
-ghost use Rattle.le_proofs.specs.Goals.{is_ground_atom, is_delayed, selected};
+ghost use Rattle.std.specs.Prelude.{◌≡◌, length, option_map};
+ghost use Rattle.le_proofs.specs.Goals.{is_delayed, selected};
+ghost use Rattle.le_machine.specs.Keeping.{kind_of};
 
-use le_terms::{Atom, Form, Literal, Term, is_ground};
+use crate::goals::Kind;
+use le_literals::is_ground_atom;
+use le_terms::{Form, Literal};
 
 // The place of the selected literal: in version 1 the first, in version 2 the first that isn't a negation
 // whose atom holds a variable.
@@ -27,21 +29,13 @@ fn is_delayed(version: u8, literal: &Literal) -> bool
     }
 }
 
-// Whether an atom has no variable.
-pub(crate) fn is_ground_atom(atom: &Atom) -> bool
-    ensures { result ≡ is_ground_atom atom.now }
+// What kind of literal it is.
+pub(crate) fn kind(literal: &Literal) -> Kind
+    ensures { result ≡ kind_of literal.now.form }
 {
-    for term in atom.args.as_slice() {
-        if !has_no_variable(term) {
-            return false;
-        }
+    match &literal.form {
+        Form::Pos(_) => Kind::Atom,
+        Form::Calc(_) => Kind::Computed,
+        _ => Kind::Searched,
     }
-    true
-}
-
-// Whether a term has no variable.
-fn has_no_variable(term: &Term) -> bool
-    ensures { result ≡ (length (occurrences term.now) == 0) }
-{
-    is_ground(term)
 }

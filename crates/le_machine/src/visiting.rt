@@ -1,41 +1,39 @@
-ghost use Rattle.std.specs.Prelude.{◌≡◌, ◌≤◌, ◌<◌, ◌+◌, ◌∷◌, [], ℕ, suc, length, reverse, option_map, List, Some, IfOk};
-ghost use Rattle.le_terms.specs.declared.program.Program.{Program as AnyProgram};
-ghost use Rattle.le_proofs.specs.Goals.{selected};
-ghost use Rattle.le_machine.specs.declared.goals.OpenGoal.{OpenGoal as AnyOpen};
-ghost use Rattle.le_machine.specs.declared.goals.SubSearch.{SubSearch as AnySearch};
-ghost use Rattle.le_terms.specs.declared.program.Literal.{Literal as AnyLiteral};
-ghost use Rattle.le_machine.specs.Keeping.{goal_of, Selects, IsUnderWay, AreComputable, IsReady, AreOpen};
-ghost use Rattle.le_base.specs.declared.stop.FoldKind.{FoldKind};
+ghost use Rattle.std.specs.Prelude.{◌≡◌, ◌≤◌, ◌<◌, ◌∷◌, [], ℕ, suc, List, length, Some, None, IfOk, IfSome, IsNone};
 ghost use Rattle.le_terms.specs.Tree.{Tree};
-ghost use Rattle.le_terms.specs.declared.program.Form.TheVariants.{Pos, Neg, Gather};
-ghost use Rattle.le_proofs.specs.declared.next.Next.TheVariants.{Floundered};
-ghost use Rattle.le_machine.specs.declared.goals.Found.TheVariants.{End};
-ghost use Rattle.le_machine.specs.declared.goals.Turn.TheVariants.{Found as Finds};
-ghost use Rattle.le_machine.specs.declared.goals.Selection.TheVariants.{Passes};
-ghost use Rattle.le_machine.specs.Turns.{Comes, SelectionComes, TakesOne, IsReadyTurn, IsReadySelection};
+ghost use Rattle.le_terms.specs.declared.program.Atom.{Atom as AnyAtom};
+ghost use Rattle.le_terms.specs.declared.program.Form.TheVariants.{Pos, Calc};
+ghost use Rattle.le_terms.specs.declared.program.Literal.{Literal as AnyLiteral};
+ghost use Rattle.le_terms.specs.declared.program.Program.{Program as AnyProgram};
+ghost use Rattle.le_machine.specs.declared.goals.Kind.TheVariants.{Searched as SearchedKind};
+ghost use Rattle.le_machine.specs.Keeping.{AreReady, goal_of, kind_of, Selects, IsComputable, AreComputable, IsReady, IsOpen};
+ghost use Rattle.le_machine.specs.Turns.{LeadsBy, AreUnderWay, Comes, IsReadyTurn, TakesOne, BeginsBy, CannotBegin};
 
-use crate::covering::is_covered;
 use crate::equating::computed;
-use crate::goals::{Found, Goal, OpenGoal, Selection, Stack, SubSearch, Task, Turn};
-use crate::selecting::{is_ground_atom, select};
-use le_proofs::Next;
+use crate::goals::{Found, Goal, Kind, Outcome, Search, Searches, SubSearch, Turn, Waiting};
+use crate::resolving::replaced_literal;
+use crate::searching::{begun, go_on, note, split};
+use crate::selecting::{kind, select};
+use le_derivations::PathStep;
+use le_literals::{is_covered, is_ground_atom};
+use le_proofs::{Next, Node, Nodes};
 use le_terms::{Atom, Form, Literal, Program, Term};
 use std::alloc::{AllocError, Global};
+use std::mem;
 
 // The visit of a goal that has literals: one of them is selected, which takes one selection.
 pub(crate) fn visit(
     alloc: Global,
     program: &Program,
-    stack: &mut Stack,
+    searches: &mut Searches,
     left: &mut u32,
     goal: Goal,
 ) -> Result<Turn, AllocError>
     requires some { 0 < length goal.literals.items }
     requires ready { IsReady left.old goal }
-    requires opens { AreOpen left.old stack.old.goals.items }
-    ensures comes { IfOk result (λ turn. (budget given : ℕ) → IsUnderWay program.now budget given left.old (reverse stack.old.goals.items) (reverse stack.old.searches.items) (Some (goal_of goal)) → Comes program.now budget given left.new (reverse stack.new.goals.items) (reverse stack.new.searches.items) turn) }
+    requires opens { AreReady left.old searches.old }
+    ensures comes { IfOk result (λ turn. (budget given : ℕ) → AreUnderWay program.now budget given searches.old (Some (goal_of goal)) left.old → Comes program.now budget given searches.new turn left.new) }
     ensures ready { IfOk result (IsReadyTurn left.new) }
-    ensures opens { IfOk result (λ turn. AreOpen left.new stack.new.goals.items) }
+    ensures opens { IfOk result (λ turn. AreReady left.new searches.new) }
     ensures fewer { left.new ≤ left.old }
     ensures taken { IfOk result (λ turn. TakesOne turn left.old left.new) }
 {
@@ -47,84 +45,140 @@ pub(crate) fn visit(
         return Ok(Turn::Found(Found::End(Next::Floundered(line))));
     };
     *left -= 1;
-    let selection = selection(alloc, &goal, place)?;
-    opened(stack, goal, place, selection)
+    selected(alloc, searches, goal, place)
 }
 
-// What is left open after a selection.
-fn opened(
-    stack: &mut Stack,
+// The visit of a goal whose literal at this place is selected.
+fn selected(
+    alloc: Global,
+    searches: &mut Searches,
     goal: Goal,
     place: usize,
-    selection: Selection,
 ) -> Result<Turn, AllocError>
-    ensures comes { IfOk result (λ turn. (program : AnyProgram) (budget given left : ℕ) → SelectionComes program budget given left (reverse stack.old.goals.items) (reverse stack.old.searches.items) goal place selection → Comes program budget given left (reverse stack.new.goals.items) (reverse stack.new.searches.items) turn) }
-    ensures ready { IfOk result (λ turn. (left : ℕ) → IsReadySelection left selection → IsReadyTurn left turn) }
-    ensures opens { IfOk result (λ turn. (left : ℕ) → IsReady (suc left) goal → place < length goal.literals.items → AreOpen left stack.old.goals.items → AreOpen left stack.new.goals.items) }
+    requires inside { place < length goal.literals.items }
+    requires computable { AreComputable goal.literals.items }
+    ensures comes { IfOk result (λ turn. (program : AnyProgram) (budget given left : ℕ) (literal : AnyLiteral) → Selects program goal.literals.items place literal → AreUnderWay program budget given searches.old (Some (goal_of goal)) (suc left) → Comes program budget given searches.new turn left) }
+    ensures ready { IfOk result (λ turn. (left : ℕ) → IsReady left goal → IsReadyTurn left turn) }
+    ensures opens { IfOk result (λ turn. (left : ℕ) → IsOpen left goal place → AreReady left searches.old → AreReady left searches.new) }
 {
-    match selection {
-        Selection::Clauses => {
-            let task = Task::Clauses(0);
-            stack.goals.push(OpenGoal { goal, place, task })?;
+    match kind(&goal.literals[place]) {
+        Kind::Atom => {
+            split(&mut searches.inner, goal, place)?;
             Ok(Turn::Back)
         }
-        Selection::Searches(search, sub) => {
-            let task = Task::Search;
-            stack.goals.push(OpenGoal { goal, place, task })?;
-            stack.searches.push(search)?;
-            Ok(Turn::Visit(sub))
-        }
-        Selection::Passes(turn) => Ok(turn),
+        Kind::Computed => computed_literal(alloc, &mut searches.inner, &goal, place),
+        Kind::Searched => begin(alloc, searches, goal, place),
     }
 }
 
-// What becomes of a goal whose literal at a place is selected.
-fn selection(alloc: Global, goal: &Goal, place: usize) -> Result<Selection, AllocError>
+// The visit of a goal whose selected literal is a computed one.
+fn computed_literal(
+    alloc: Global,
+    search: &mut Search,
+    goal: &Goal,
+    place: usize,
+) -> Result<Turn, AllocError>
     requires inside { place < length goal.now.literals.items }
     requires computable { AreComputable goal.now.literals.items }
-    ensures comes { IfOk result (λ selection. (program : AnyProgram) (budget given left : ℕ) (opens : List AnyOpen) (searches : List AnySearch) → option_map (λ picked. length picked.before) (selected program.version goal.now.literals.items) ≡ Some place → IsUnderWay program budget given (suc left) opens searches (Some (goal_of goal.now)) → SelectionComes program budget given left opens searches goal.now place selection) }
-    ensures ready { IfOk result (λ selection. (left : ℕ) → IsReady left goal.now → IsReadySelection left selection) }
+    ensures leads { IfOk result (λ turn. (program : AnyProgram) (left : ℕ) (literal : AnyLiteral) (atom : AnyAtom) → Selects program goal.now.literals.items place literal → literal.form ≡ Calc atom → LeadsBy program search.old (goal_of goal.now) (suc left) search.new turn left) }
+    ensures keeps { IfOk result (λ turn. search.new.keeps ≡ search.old.keeps) }
+    ensures opens { IfOk result (λ turn. search.new.opens.items ≡ search.old.opens.items) }
+    ensures ready { IfOk result (λ turn. (left : ℕ) → IsReady left goal.now → IsReadyTurn left turn) }
 {
     let literal = &goal.literals[place];
-    let line = literal.line;
     match &literal.form {
-        Form::Pos(_) => Ok(Selection::Clauses),
-        Form::Calc(atom) => Ok(Selection::Passes(computed(alloc, goal, place, line, atom)?)),
-        Form::Neg(atom) => negation(alloc, goal, line, atom),
-        Form::Gather { value, atom, .. } => gather(alloc, goal, line, value, atom),
+        Form::Calc(atom) => equation(alloc, search, goal, place, literal.line, atom),
+        _ => Ok(Turn::Back),
     }
 }
 
-// What becomes of a goal whose selected literal is a negation of this atom.
-fn negation(alloc: Global, goal: &Goal, line: u32, atom: &Atom) -> Result<Selection, AllocError>
-    ensures comes { IfOk result (λ selection. (program : AnyProgram) (budget given left place : ℕ) (literal : AnyLiteral) (opens : List AnyOpen) (searches : List AnySearch) → Selects program goal.now.literals.items place literal → literal.line ≡ line → literal.form ≡ Neg atom.now → IsUnderWay program budget given (suc left) opens searches (Some (goal_of goal.now)) → SelectionComes program budget given left opens searches goal.now place selection) }
-    ensures ready { IfOk result (λ selection. (left : ℕ) → IsReady left goal.now → IsReadySelection left selection) }
-{
-    if !is_ground_atom(atom) {
-        return Ok(floundered(line));
-    }
-    let sub = sub_goal(alloc, goal.next, line, atom, Vec::new(alloc))?;
-    Ok(Selection::Searches(SubSearch::Negation, sub))
-}
-
-// What becomes of a goal whose selected literal is a gather of this value and atom.
-fn gather(
+// The visit of a goal whose selected literal is a computed one of this line with this atom.
+fn equation(
     alloc: Global,
+    search: &mut Search,
     goal: &Goal,
+    place: usize,
     line: u32,
-    value: &Term,
     atom: &Atom,
-) -> Result<Selection, AllocError>
-    ensures comes { IfOk result (λ selection. (program : AnyProgram) (budget given left place : ℕ) (literal : AnyLiteral) (kind : FoldKind) (target : Tree) (opens : List AnyOpen) (searches : List AnySearch) → Selects program goal.now.literals.items place literal → literal.line ≡ line → literal.form ≡ Gather kind target value.now atom.now → IsUnderWay program budget given (suc left) opens searches (Some (goal_of goal.now)) → SelectionComes program budget given left opens searches goal.now place selection) }
-    ensures ready { IfOk result (λ selection. (left : ℕ) → IsReady left goal.now → IsReadySelection left selection) }
+) -> Result<Turn, AllocError>
+    requires inside { place < length goal.now.literals.items }
+    requires computable { IsComputable (Calc atom.now) }
+    ensures leads { IfOk result (λ turn. (program : AnyProgram) (left : ℕ) (literal : AnyLiteral) → Selects program goal.now.literals.items place literal → literal.form ≡ Calc atom.now → literal.line ≡ line → LeadsBy program search.old (goal_of goal.now) (suc left) search.new turn left) }
+    ensures keeps { IfOk result (λ turn. search.new.keeps ≡ search.old.keeps) }
+    ensures opens { IfOk result (λ turn. search.new.opens.items ≡ search.old.opens.items) }
+    ensures ready { IfOk result (λ turn. (left : ℕ) → IsReady left goal.now → IsReadyTurn left turn) }
 {
-    if !is_covered(value, atom) {
-        return Ok(floundered(line));
+    match computed(alloc, line, atom)? {
+        Outcome::GoesOn(unifier) => {
+            let rest = replaced_literal(alloc, goal, place, goal.next, &[], &unifier)?;
+            let atom = atom.copy(alloc)?;
+            let step = PathStep {
+                place,
+                unifier,
+                node: Node::Compute { atom },
+                below: Nodes::from_vec(Vec::new(alloc)),
+            };
+            go_on(alloc, search, Node::Computed, step)?;
+            Ok(Turn::Visit(rest))
+        }
+        Outcome::Fails => {
+            note(search, Node::Dead)?;
+            Ok(Turn::Back)
+        }
+        Outcome::Ends(next) => Ok(Turn::Found(Found::End(next))),
     }
-    let mut terms = Vec::with_capacity(alloc, 1)?;
-    terms.push(value.copy(alloc)?)?;
-    let sub = sub_goal(alloc, goal.next, line, atom, terms)?;
-    Ok(Selection::Searches(SubSearch::Gather(Vec::new(alloc)), sub))
+}
+
+// The visit of a goal whose selected literal is a negation or a gather: the search of its atom begins, where it can.
+fn begin(
+    alloc: Global,
+    searches: &mut Searches,
+    goal: Goal,
+    place: usize,
+) -> Result<Turn, AllocError>
+    requires inside { place < length goal.literals.items }
+    ensures comes { IfOk result (λ turn. (program : AnyProgram) (budget given left : ℕ) (literal : AnyLiteral) → Selects program goal.literals.items place literal → kind_of literal.form ≡ SearchedKind → AreUnderWay program budget given searches.old (Some (goal_of goal)) (suc left) → Comes program budget given searches.new turn left) }
+    ensures ready { IfOk result (λ turn. (left : ℕ) → IsReady left goal → IsReadyTurn left turn) }
+    ensures opens { IfOk result (λ turn. (left : ℕ) → IsOpen left goal place → AreReady left searches.old → AreReady left searches.new) }
+{
+    let literal = &goal.literals[place];
+    let Some((sub, first)) = sub_search(alloc, goal.next, literal)? else {
+        return Ok(Turn::Found(Found::End(Next::Floundered(literal.line))));
+    };
+    let search = mem::replace(&mut searches.inner, begun(alloc, true));
+    searches.waiting.push(Waiting {
+        search,
+        goal,
+        place,
+        sub,
+    })?;
+    Ok(Turn::Visit(first))
+}
+
+// What the search of the atom of a negation or a gather is for, and the goal that it begins with, or none where it
+// can't be searched.
+fn sub_search(
+    alloc: Global,
+    next: u32,
+    literal: &Literal,
+) -> Result<Option<(SubSearch, Goal)>, AllocError>
+    ensures begins { IfOk result (λ answer. IfSome answer (λ pair. kind_of literal.now.form ≡ SearchedKind → BeginsBy next literal.now pair.0 pair.1)) }
+    ensures none { IfOk result (λ answer. IsNone answer → kind_of literal.now.form ≡ SearchedKind → CannotBegin literal.now.form) }
+    ensures ready { IfOk result (λ answer. IfSome answer (λ pair. (pair.1.next ≡ next) × AreComputable pair.1.literals.items)) }
+{
+    match &literal.form {
+        Form::Neg(atom) if is_ground_atom(atom) => {
+            let first = sub_goal(alloc, next, literal.line, atom, Vec::new(alloc))?;
+            Ok(Some((SubSearch::Negation, first)))
+        }
+        Form::Gather { value, atom, .. } if is_covered(value, atom) => {
+            let mut terms = Vec::with_capacity(alloc, 1)?;
+            terms.push(value.copy(alloc)?)?;
+            let first = sub_goal(alloc, next, literal.line, atom, terms)?;
+            Ok(Some((SubSearch::Gather(Vec::new(alloc)), first)))
+        }
+        _ => Ok(None),
+    }
 }
 
 // The goal of a search of an atom.
@@ -147,11 +201,4 @@ fn sub_goal(
         literals,
         terms,
     })
-}
-
-// The search ends at a literal of this line that can't be selected.
-fn floundered(line: u32) -> Selection
-    ensures { result ≡ Passes (Finds (End (Floundered line))) }
-{
-    Selection::Passes(Turn::Found(Found::End(Next::Floundered(line))))
 }

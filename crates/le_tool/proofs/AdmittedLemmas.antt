@@ -1,5 +1,5 @@
 -- What is said of the answers of a search that a document's words ask for.
-use Rattle.std.proofs.Common.{◌≡◌, ℕ, List, Option, None, Some, Result, Ok, Err, IfSome, IfOk, subst}
+use Rattle.std.proofs.Common.{ℕ, List, Option, None, Some, Result, Ok, Err, IfSome, IfOk, subst}
 use Rattle.le_base.specs.declared.stop.Refusal.{Refusal}
 use Rattle.le_terms.specs.declared.program.Program.{Program}
 use Rattle.le_terms.specs.Program.{IsProgram}
@@ -9,10 +9,12 @@ use Rattle.le_clauses.specs.Validity.{IsWhole}
 use Rattle.le_clauses.proofs.Selected.{selected_in}
 use Rattle.le_proofs.proofs.Answers.{search-whole}
 use Rattle.le_proofs.proofs.Printed.{printed-admitted}
-use Rattle.le_tool.specs.declared.jobs.Command.TheVariants.{Answer}
+use Rattle.le_tool.specs.declared.asking.Detail.{Detail}
+use Rattle.le_tool.specs.declared.documents.Reading.{Reading}
+use Rattle.le_tool.specs.Readings.{IsReading}
 use Rattle.le_tool.specs.declared.jobs.Task.{Task}
-use Rattle.le_tool.specs.Report.{Question, question_of, document_of}
-use Rattle.le_tool.specs.Admitted.{search_by, search_in, command_search, IsShown}
+use Rattle.le_tool.specs.Report.{Question, question_of}
+use Rattle.le_tool.specs.Admitted.{search_by, search_in, task_search, IsShown}
 
 -- a search of a well formed program
 shown_by : (budget : ℕ) (r : Result Program Refusal) → IfOk r IsProgram → IfSome (search_by budget r) IsShown
@@ -25,6 +27,6 @@ shown_in q (Ok whole) is = shown_by q.budget (selected whole q.scenario q.query)
 shown_in q (Err refusal) is = tt
 
 -- the search of a task in the document that the bytes are, where these are known
-pub shown_of : (o : Option (List ℕ)) (words : List (List ℕ)) (task : Task) (found : Result Whole Refusal) → IfOk found IsWhole → IfSome o (λ bytes. found ≡ document_of bytes) → IfSome o (λ bytes. IfSome (command_search Answer words bytes task) IsShown)
-shown_of None words task found is e = tt
-shown_of (Some bytes) words task found is e = subst (λ d. IfSome (search_in (question_of words task) d) IsShown) e (shown_in (question_of words task) found is)
+pub shown_of : (o : Option (List ℕ)) (detail : Detail) (words : List (List ℕ)) (task : Task) (reading : Reading) → IfOk reading.document IsWhole → IfSome o (IsReading reading) → IfSome o (λ bytes. IfSome (task_search detail words bytes task) IsShown)
+shown_of None detail words task reading is e = tt
+shown_of (Some bytes) detail words task reading is e = subst (λ d. IfSome (search_in (question_of detail words task) d) IsShown) e.document (shown_in (question_of detail words task) reading.document is)

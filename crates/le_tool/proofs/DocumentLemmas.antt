@@ -1,5 +1,5 @@
 -- A document with too many bytes, and the report of words.
-use Rattle.std.proofs.Common.{◌≡◌, ℕ, ◌+◌, ◌<◌, cond, List, length, Option, None, Some, Result, Err, IfSome, subst, ap, sym, ◌∙◌, length-append, arith, lt-ltb}
+use Rattle.std.proofs.Common.{◌≡◌, ℕ, ◌+◌, ◌<◌, cond, List, length, Option, None, Some, Result, Ok, Err, IfSome, IfOk, refl, subst, ap, sym, ◌∙◌, length-append, arith, lt-ltb}
 use Rattle.std.specs.Io.KnownBytes.{Appends}
 use Rattle.le_base.specs.declared.code.Code.TheVariants.{TooLong}
 use Rattle.le_base.specs.declared.stop.Refusal.{Refusal}
@@ -7,25 +7,31 @@ use Rattle.le_base.specs.Stop.{refusal_at}
 use Rattle.le_base.specs.Outside.{ConsumesExactly, AppendsPrefix}
 use Rattle.le_layout.specs.Layout.{layout_of}
 use Rattle.le_clauses.specs.declared.whole.Whole.{Whole}
-use Rattle.le_tool.specs.declared.jobs.Command.TheVariants.{Answer}
+use Rattle.le_tool.specs.declared.asking.Detail.{Detail}
+use Rattle.le_tool.specs.declared.documents.Reading.{Reading}
+use Rattle.le_tool.specs.Readings.{IsReading}
 use Rattle.le_tool.specs.declared.jobs.Task.{Task}
 use Rattle.le_tool.specs.declared.report.Report.{Report}
 use Rattle.le_tool.specs.Job.{job_of}
-use Rattle.le_tool.specs.Report.{most_bytes, whole_of_layout, document_of, usage_text, Question, document_report, clauses_report, command_report, question_of, task_report, report_by, report}
+use Rattle.le_tool.specs.Documents.{most_bytes, whole_of_layout, document_by, document_of}
+use Rattle.le_tool.specs.Report.{usage_text, Question, document_report, clauses_report, asked_report, question_of, task_report, report_by, report}
 
 -- a document of more bytes than the most isn't read
-too_long : (bytes : List ℕ) → most_bytes < length bytes → document_of bytes ≡ Err (refusal_at TooLong 0 0)
-unfolding document_of
+pub too_long : (bytes : List ℕ) → most_bytes < length bytes → document_of bytes ≡ Err (refusal_at TooLong 0 0)
+unfolding document_by
 too_long bytes long = ap (λ b. cond b (Err (refusal_at TooLong 0 0)) (whole_of_layout (layout_of bytes))) (lt-ltb most_bytes (length bytes) long)
 
 -- so it is where one byte more than the most was read
-pub long_document : (a b : Option (List ℕ)) (r : Refusal) → ConsumesExactly a b (most_bytes + 1) → r ≡ refusal_at TooLong 0 0 → IfSome a (λ bytes. (let e : Result Whole Refusal = Err r in e) ≡ document_of bytes)
-long_document None b r taken e = tt
-long_document (Some xs) None r taken e = absurd taken.2
-long_document (Some xs) (Some ys) r taken e =
-    ap Err e ∙ sym (too_long xs (omega (arith, taken.1, ap length taken.2, length-append taken.0 ys)))
+pub long_document : (a b : Option (List ℕ)) (reading : Reading) → ConsumesExactly a b (most_bytes + 1) → reading.document ≡ Err (refusal_at TooLong 0 0) → IfSome a (IsReading reading)
+long_document None b reading taken e = tt
+long_document (Some xs) None reading taken e = absurd taken.2
+long_document (Some xs) (Some ys) reading taken e =
+    record {
+      document = e ∙ sym (too_long xs (omega (arith, taken.1, ap length taken.2, length-append taken.0 ys)));
+      bytes_ = subst (λ (d : Result Whole Refusal). IfOk d (λ whole. reading.bytes.items ≡ xs)) (sym e) tt;
+    }
 
--- ---- the report of words that ask for nothing
+-- ---- the report of words that are no command line
 
 abbrev Said : Option (List ℕ) → Option (List ℕ) → ℕ → Report → Type 0
 Said a b status r = Appends a b r.text × (status ≡ r.status)
@@ -56,27 +62,34 @@ task_whole (Some bytes) a b ws task status e h = subst (Said a b status) (task_i
 
 -- ---- the report of a task on a document
 
+-- the report of a question on what was read is the report on the bytes
+report_is : (q : Question) (found : Result Whole Refusal) (read bytes : List ℕ) → IfOk found (λ whole. read ≡ bytes) → document_report read q found ≡ document_report bytes q found
+report_is q (Ok whole) read bytes same = ap (λ bs. document_report bs q (Ok whole)) same
+report_is q (Err refusal) read bytes same = refl
+
 -- the answers to a task's question on what the source holds are its report
-question_is : (words : List (List ℕ)) (task : Task) (q : Question) (found : Result Whole Refusal) (bytes : List ℕ) → q ≡ question_of words task → found ≡ document_of bytes → document_report q found ≡ command_report Answer words task bytes
-question_is words task q found bytes names e = ap (λ p. document_report p found) names ∙ ap (document_report (question_of words task)) e
+question_is : (detail : Detail) (words : List (List ℕ)) (task : Task) (q : Question) (reading : Reading) (bytes : List ℕ) → q ≡ question_of detail words task → IsReading reading bytes → document_report reading.bytes.items q reading.document ≡ asked_report detail words task bytes
+question_is detail words task q reading bytes names is =
+    report_is q reading.document reading.bytes.items bytes is.bytes_
+    ∙ ap (λ p. document_report bytes p reading.document) names ∙ ap (document_report bytes (question_of detail words task)) is.document
 
-pub question_part : (o a b : Option (List ℕ)) (words : List (List ℕ)) (task : Task) (q : Question) (found : Result Whole Refusal) → q ≡ question_of words task → IfSome o (λ bytes. found ≡ document_of bytes) →
-    AppendsPrefix a b (document_report q found).text → IfSome o (λ bytes. AppendsPrefix a b (command_report Answer words task bytes).text)
-question_part None a b words task q found names e h = tt
-question_part (Some bytes) a b words task q found names e h = subst (λ (r : Report). AppendsPrefix a b r.text) (question_is words task q found bytes names e) h
+pub question_part : (o a b : Option (List ℕ)) (detail : Detail) (words : List (List ℕ)) (task : Task) (q : Question) (reading : Reading) → q ≡ question_of detail words task → IfSome o (IsReading reading) →
+    AppendsPrefix a b (document_report reading.bytes.items q reading.document).text → IfSome o (λ bytes. AppendsPrefix a b (asked_report detail words task bytes).text)
+question_part None a b detail words task q reading names e h = tt
+question_part (Some bytes) a b detail words task q reading names e h = subst (λ (r : Report). AppendsPrefix a b r.text) (question_is detail words task q reading bytes names e) h
 
-pub question_whole : (o a b : Option (List ℕ)) (words : List (List ℕ)) (task : Task) (q : Question) (found : Result Whole Refusal) (status : ℕ) → q ≡ question_of words task → IfSome o (λ bytes. found ≡ document_of bytes) →
-    Said a b status (document_report q found) → IfSome o (λ bytes. Said a b status (command_report Answer words task bytes))
-question_whole None a b words task q found status names e h = tt
-question_whole (Some bytes) a b words task q found status names e h = subst (Said a b status) (question_is words task q found bytes names e) h
+pub question_whole : (o a b : Option (List ℕ)) (detail : Detail) (words : List (List ℕ)) (task : Task) (q : Question) (reading : Reading) (status : ℕ) → q ≡ question_of detail words task → IfSome o (IsReading reading) →
+    Said a b status (document_report reading.bytes.items q reading.document) → IfSome o (λ bytes. Said a b status (asked_report detail words task bytes))
+question_whole None a b detail words task q reading status names e h = tt
+question_whole (Some bytes) a b detail words task q reading status names e h = subst (Said a b status) (question_is detail words task q reading bytes names e) h
 
 -- the clauses of what the source holds are the report
-pub clauses_part : (o a b : Option (List ℕ)) (found : Result Whole Refusal) → IfSome o (λ bytes. found ≡ document_of bytes) →
-    AppendsPrefix a b (clauses_report found).text → IfSome o (λ bytes. AppendsPrefix a b (clauses_report (document_of bytes)).text)
-clauses_part None a b found e h = tt
-clauses_part (Some bytes) a b found e h = subst (λ d. AppendsPrefix a b (clauses_report d).text) e h
+pub clauses_part : (o a b : Option (List ℕ)) (reading : Reading) → IfSome o (IsReading reading) →
+    AppendsPrefix a b (clauses_report reading.document).text → IfSome o (λ bytes. AppendsPrefix a b (clauses_report (document_of bytes)).text)
+clauses_part None a b reading e h = tt
+clauses_part (Some bytes) a b reading e h = subst (λ d. AppendsPrefix a b (clauses_report d).text) e.document h
 
-pub clauses_whole : (o a b : Option (List ℕ)) (found : Result Whole Refusal) (status : ℕ) → IfSome o (λ bytes. found ≡ document_of bytes) →
-    Said a b status (clauses_report found) → IfSome o (λ bytes. Said a b status (clauses_report (document_of bytes)))
-clauses_whole None a b found status e h = tt
-clauses_whole (Some bytes) a b found status e h = subst (λ d. Said a b status (clauses_report d)) e h
+pub clauses_whole : (o a b : Option (List ℕ)) (reading : Reading) (status : ℕ) → IfSome o (IsReading reading) →
+    Said a b status (clauses_report reading.document) → IfSome o (λ bytes. Said a b status (clauses_report (document_of bytes)))
+clauses_whole None a b reading status e h = tt
+clauses_whole (Some bytes) a b reading status e h = subst (λ d. Said a b status (clauses_report d)) e.document h

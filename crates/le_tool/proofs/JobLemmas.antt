@@ -5,7 +5,7 @@ use Rattle.std.proofs.lemmas.List.{drop_more, length-drop}
 use Rattle.le_tool.specs.declared.jobs.Options.{Options}
 use Rattle.le_tool.specs.Job.{with_option, options_from}
 
--- an option and its value, and the options behind them
+-- an option and its value, and the options after them
 pub options_more : (words : List (String Global)) (at : ℕ) (o p : Options) (name value : String Global) (n v : List ℕ) → at + 1 < length words →
     name ≡ get_or words at name → value ≡ get_or words (at + 1) value → n ≡ string_bytes name → v ≡ string_bytes value →
     with_option o n (at + 1) v ≡ Some p →

@@ -1,4 +1,5 @@
 pub mod AdmittedLemmas
+pub mod ChecksLemmas
 pub mod DocumentLemmas
 pub mod JobLemmas
 pub mod ReportLemmas

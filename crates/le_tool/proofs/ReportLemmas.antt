@@ -4,7 +4,7 @@ use Rattle.std.proofs.lemmas.List.{drop_all}
 use Rattle.le_terms.specs.Tree.{Tree}
 use Rattle.le_terms.specs.declared.program.Asked.{Asked}
 use Rattle.le_clauses.specs.declared.whole.Whole.{Whole}
-use Rattle.le_tool.specs.Report.{value_lines}
+use Rattle.le_tool.specs.Lines.{value_lines}
 
 no_values : (whole : Whole) (asked : List Asked) → value_lines whole asked [] ≡ []
 no_values whole [] = refl

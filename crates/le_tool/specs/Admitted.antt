@@ -13,10 +13,13 @@ use Rattle.le_proofs.specs.Search.{answers_of, end_of}
 use Rattle.le_proofs.specs.Derivations.{certificate_of}
 use Rattle.le_proofs.specs.Lloyd.{Admits, Whole as IsWholeTree}
 use Rattle.le_tool.specs.declared.jobs.Command.{Command}
-use Rattle.le_tool.specs.declared.jobs.Command.TheVariants.{Answer, Clauses}
+use Rattle.le_tool.specs.declared.jobs.Command.TheVariants.{Answer, Explain, Certify, Clauses, Check}
 use Rattle.le_tool.specs.declared.jobs.Task.{Task}
+use Rattle.le_tool.specs.declared.asking.Detail.{Detail}
+use Rattle.le_tool.specs.declared.asking.Detail.TheVariants.{Values, Reasons, Derivations}
 use Rattle.le_tool.specs.Job.{job_of}
-use Rattle.le_tool.specs.Report.{Question, question_of, document_of}
+use Rattle.le_tool.specs.Documents.{document_of}
+use Rattle.le_tool.specs.Report.{Question, question_of}
 
 -- a search: its program and its budget of selections
 pub record Search : Type 0 where
@@ -32,10 +35,17 @@ abbrev pub search_in : Question → Result Whole Refusal → Option Search
 search_in q (Ok whole) = search_by q.budget (selected whole q.scenario q.query)
 search_in q (Err refusal) = None
 
--- the search of a command in a document; the clauses of a document ask for none
+-- the search of a task in a document
+abbrev pub task_search : Detail → List (List ℕ) → List ℕ → Task → Option Search
+task_search detail words bytes task = search_in (question_of detail words task) (document_of bytes)
+
+-- the search of a command in a document; the clauses of a document and the check of a bundle ask for none
 abbrev pub command_search : Command → List (List ℕ) → List ℕ → Task → Option Search
-command_search Answer words bytes task = search_in (question_of words task) (document_of bytes)
+command_search Answer words bytes task = task_search Values words bytes task
+command_search Explain words bytes task = task_search Reasons words bytes task
+command_search Certify words bytes task = task_search Derivations words bytes task
 command_search Clauses words bytes task = None
+command_search Check words bytes task = None
 
 abbrev pub search_for : List (List ℕ) → List ℕ → Option Task → Option Search
 search_for words bytes None = None

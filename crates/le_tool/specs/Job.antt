@@ -1,9 +1,10 @@
 -- The words of the command line: this project's profile.
-use Rattle.std.specs.Prelude.{Bool, false, ℕ, ◌+◌, ◌<◌, ◌≤◌, ◌==◌, ◌&&◌, nat_le, if◌then◌else◌, List, [], ◌∷◌, slice_index, Option, None, Some, is_none, IfSome, codes, ℤ, pos, negsuc}
+use Rattle.std.specs.Prelude.{ℕ, ◌+◌, ◌<◌, ◌≤◌, ◌==◌, ◌&&◌, nat_le, if◌then◌else◌, List, [], ◌∷◌, slice_index, Option, None, Some, is_none, IfSome, codes, ℤ, pos, negsuc}
 use Rattle.std.specs.Option.{option_map, option_and_then, unwrap_or}
 use Rattle.std.specs.Str.{bytes_eq}
 use Rattle.le_values.specs.Numbers.{number_of}
-use Rattle.le_tool.specs.declared.jobs.Command.TheVariants.{Answer, Clauses}
+use Rattle.le_tool.specs.declared.jobs.Command.{Command}
+use Rattle.le_tool.specs.declared.jobs.Command.TheVariants.{Answer, Explain, Certify, Clauses, Check}
 use Rattle.le_tool.specs.declared.jobs.Options.{Options}
 use Rattle.le_tool.specs.declared.jobs.Task.{Task}
 
@@ -47,29 +48,39 @@ options_from at o (name ∷ value ∷ words) = option_and_then (λ p. options_fr
 abbrev pub no_options : Options
 no_options = record { query = None; scenario = None; budget = None; answers = None }
 
--- the task of the command `answer` with these options, where the query has a name; the budget is 100,000 and 100 answers are asked for where the words don't say
-abbrev pub answer_task : Options → Option Task
-answer_task o = option_map (λ place. record { command = Answer; query = Some place; scenario = o.scenario; budget = unwrap_or o.budget 100000; answers = unwrap_or o.answers 100 }) o.query
+-- the task of a command that searches, with these options, where the query has a name; the budget is 100,000 and 100 answers are asked for where the words don't say
+abbrev pub search_task : Command → Options → Option Task
+search_task command o = option_map (λ place. record { command = command; query = Some place; scenario = o.scenario; budget = unwrap_or o.budget 100000; answers = unwrap_or o.answers 100 }) o.query
 
--- whether a command is `clauses` and no word follows it
-abbrev pub is_clauses : List ℕ → List (List ℕ) → Bool
-is_clauses command [] = bytes_eq command (codes "clauses")
-is_clauses command (word ∷ words) = false
+-- the command of a word that asks for a search
+abbrev pub search_command : List ℕ → Option Command
+search_command word =
+    if bytes_eq word (codes "answer") then Some Answer
+    else (if bytes_eq word (codes "explain") then Some Explain
+    else (if bytes_eq word (codes "certify") then Some Certify else None))
 
--- the task of the command `clauses`
-abbrev pub clauses_task : Task
-clauses_task = record { command = Clauses; query = None; scenario = None; budget = 100000; answers = 100 }
+-- the command of a word that stands alone
+abbrev pub lone_command : List ℕ → Option Command
+lone_command word = if bytes_eq word (codes "clauses") then Some Clauses else (if bytes_eq word (codes "check") then Some Check else None)
 
--- the task of this command with the words that follow it
-abbrev pub command_task : List ℕ → List (List ℕ) → Option Task
-command_task command words =
-    if bytes_eq command (codes "answer") then option_and_then answer_task (options_from 1 no_options words)
-    else (if is_clauses command words then Some clauses_task else None)
+-- the command of a word, where no word follows it
+abbrev pub single_command : List ℕ → List (List ℕ) → Option Command
+single_command word [] = lone_command word
+single_command word (next ∷ words) = None
 
--- the task that a list of words asks for: `answer` and pairs of an option's name and its value, in any order and each name at most once, or `clauses` alone
+-- the task of a command without options
+abbrev pub plain_task : Command → Task
+plain_task command = record { command = command; query = None; scenario = None; budget = 100000; answers = 100 }
+
+-- the task of this word with the words that follow it, where it asks for this search, or for none
+abbrev pub task_of : Option Command → List ℕ → List (List ℕ) → Option Task
+task_of (Some command) word words = option_and_then (search_task command) (options_from 1 no_options words)
+task_of None word words = option_map plain_task (single_command word words)
+
+-- the task that a list of words asks for: `answer`, `explain` or `certify` and pairs of an option's name and its value, in any order and each name at most once, or `clauses` or `check` alone
 abbrev pub job_of : List (List ℕ) → Option Task
 job_of [] = None
-job_of (command ∷ words) = command_task command words
+job_of (word ∷ words) = task_of (search_command word) word words
 
 -- the places of names are below this one, and the numbers are in their ranges
 pub record AreOptions (count : ℕ) (o : Options) : Type 0 where

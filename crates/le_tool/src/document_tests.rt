@@ -122,7 +122,7 @@ fn queries(rt: HostRuntime) -> Result<(), Fail> {
     Ok(())
 }
 
-const CITIZENSHIP: &str =
+pub(crate) const CITIZENSHIP: &str =
     "the target language is: prolog.\n\nthe templates are:\n    *a person* is born in *a place* on *a date*,\n    *a date* is after commencement,\n    *a person* is the mother of *a person*,\n    *a person* is a British citizen on *a date*,\n    *a person* is settled in the UK on *a date*,\n    *a person* acquires British citizenship on *a date*.\n\nthe knowledge base citizenship includes:\n    a person acquires British citizenship on a date\n    if the person is born in the UK on the date\n    and the date is after commencement\n    and an other person is the mother of the person\n    and the other person is a British citizen on the date\n        or the other person is settled in the UK on the date.\n\nscenario alice is:\n    John is born in the UK on 2021-10-09.\n    2021-10-09 is after commencement.\n    Alice is the mother of John.\n    Alice is a British citizen on 2021-10-09.\n\nquery one is:\n    which person acquires British citizenship on which date.\n";
 
 const MOODS: &str =

@@ -1,15 +1,21 @@
 ghost use Rattle.std.specs.Prelude.{◌≡◌, ℕ, ◌+◌, ◌<◌, ◌≤◌, length, map, string_bytes, take, drop, IfSome};
-ghost use Rattle.le_tool.specs.Job.{count_up_to, no_options, with_option, options_from, answer_task as answer_task_of, is_clauses as is_clauses_of, job_of, AreOptions};
+ghost use Rattle.le_tool.specs.Job.{count_up_to, no_options, with_option, options_from, search_task as search_task_of, search_command as search_command_of, single_command as single_command_of, lone_command as lone_command_of, job_of, AreOptions};
 
 use le_values::number_of;
 
 /// What the command line asks for.
 #[derive(Clone, Copy, Debug, PartialEq, Eq)]
 pub enum Command {
-    /// The answers of a query.
+    /// The answers of a query, with their values.
     Answer,
+    /// The answers of a query, with their values and explanations.
+    Explain,
+    /// A document with the derivations of the answers of a query.
+    Certify,
     /// The clauses of a document.
     Clauses,
+    /// The check of a bundle: a document with derivations of the answers of a query.
+    Check,
 }
 
 /// The most answers that are shown, where the words don't say.
@@ -46,8 +52,8 @@ struct Options {
 }
 
 /// The task that the words ask for, without the program's name, and None exactly where the command
-/// line isn't valid. It is valid where it is `clauses` alone, or `answer` and then pairs of an option
-/// and its value in any order, each option at most once. `--query NAME` has to be there, with any word
+/// line isn't valid. It is valid where it is `clauses` or `check` alone, or `answer`, `explain` or `certify` and then
+/// pairs of an option and its value in any order, each option at most once. `--query NAME` has to be there, with any word
 /// as the name; `--scenario NAME`, `--budget N` with N from 1 to 100,000 (100,000 where it isn't there)
 /// and `--answers K` with K from 1 to 1,000 (100 where it isn't there) may be. Numbers are ASCII digits
 /// without a sign or a leading zero.
@@ -61,14 +67,12 @@ pub fn job(words: &[String]) -> Option<Task>
     if words.is_empty() {
         return None;
     }
-    if words[0].as_str() == "answer" {
-        return answer_task(read_options(words)?);
+    if let Some(command) = search_command(words[0].as_str()) {
+        return search_task(command, read_options(words)?);
     }
-    if !is_clauses(words[0].as_str(), &words[1..]) {
-        return None;
-    }
+    let command = single_command(words[0].as_str(), &words[1..])?;
     Some(Task {
-        command: Command::Clauses,
+        command,
         query: None,
         scenario: None,
         budget: BUDGET,
@@ -76,20 +80,52 @@ pub fn job(words: &[String]) -> Option<Task>
     })
 }
 
-/// Whether a command is `clauses` and no word follows it.
-fn is_clauses(command: &str, rest: &[String]) -> bool
-    ensures { result ≡ is_clauses_of command.now (map string_bytes rest.now) }
+/// The command of a word that asks for a search.
+fn search_command(word: &str) -> Option<Command>
+    ensures { result ≡ search_command_of word.now }
 {
-    rest.is_empty() && command == "clauses"
+    if word == "answer" {
+        return Some(Command::Answer);
+    }
+    if word == "explain" {
+        return Some(Command::Explain);
+    }
+    if word == "certify" {
+        return Some(Command::Certify);
+    }
+    None
 }
 
-/// The task of the command `answer` with these options.
-fn answer_task(options: Options) -> Option<Task>
-    ensures { result ≡ answer_task_of options }
+/// The command of a word that no word follows.
+fn single_command(word: &str, rest: &[String]) -> Option<Command>
+    ensures { result ≡ single_command_of word.now (map string_bytes rest.now) }
+{
+    if !rest.is_empty() {
+        return None;
+    }
+    lone_command(word)
+}
+
+/// The command of a word that stands alone.
+fn lone_command(word: &str) -> Option<Command>
+    ensures { result ≡ lone_command_of word.now }
+{
+    if word == "clauses" {
+        return Some(Command::Clauses);
+    }
+    if word == "check" {
+        return Some(Command::Check);
+    }
+    None
+}
+
+/// The task of a command that searches, with these options.
+fn search_task(command: Command, options: Options) -> Option<Task>
+    ensures { result ≡ search_task_of command options }
 {
     let query = options.query?;
     Some(Task {
-        command: Command::Answer,
+        command,
         query: Some(query),
         scenario: options.scenario,
         budget: options.budget.unwrap_or(BUDGET),

@@ -1,12 +1,25 @@
-ghost use Rattle.std.specs.Prelude.{◌≡◌, ◌+◌, ◌<◌, ◌++◌, IfOk, OnOk, decimal};
-ghost use Rattle.le_tool.specs.Report.{refused_report, readings_text, is_ambiguous, both_text, value_line, value_lines, answer_lines, answer_text, stopped_line, end_line, end_status};
+ghost use Rattle.std.specs.Prelude.{◌≡◌, ◌+◌, ◌<◌, ◌++◌, Some, IfOk, OnOk, decimal};
+ghost use Rattle.std.specs.Option.{option_map};
+ghost use Rattle.le_proofs.specs.declared.next.Next.TheVariants.{Answer};
+ghost use Rattle.le_machine.specs.declared.phase.Phase.TheVariants.{Told};
+ghost use Rattle.le_machine.specs.State.{last_leaf};
+ghost use Rattle.le_tool.specs.declared.asking.Detail.TheVariants.{Values, Reasons, Derivations};
+ghost use Rattle.le_tool.specs.Lines.{refused_report, readings_text, is_ambiguous, both_text, value_line, value_lines, answer_lines};
+ghost use Rattle.le_proofs.specs.Replay.{accepted as accepted_with};
+ghost use Rattle.le_check.specs.Verdicts.{verdict_by};
+ghost use Rattle.le_tool.specs.Checks.{verdict_text, fault_text, refused_text, all_accepted_line, unfit_line};
+ghost use Rattle.le_tool.specs.Report.{answer_body, answer_text, stopped_line, end_line, end_status};
 
+use crate::asking::Detail;
 use itoa::Buffer;
 use le_base::{Code, Refusal, Text};
+use le_check::Verdict;
 use le_clauses::Whole;
-use le_english::say_term;
+use le_english::{explain, say_term};
+use le_machine::Machine;
 use le_proofs::Next;
-use le_terms::{Asked, Term};
+use le_prooftext::write;
+use le_terms::{Asked, Program, Term};
 use std::alloc::{AllocError, Global};
 
 /// What is written, and the status that goes with it.
@@ -72,21 +85,90 @@ fn push_both(text: &mut Text, first: &str, second: &str) -> Result<(), AllocErro
     Ok(())
 }
 
-/// The lines of the answer of this number with these values.
+/// The lines of the machine's last answer, whose number this is.
 pub fn answer(
     alloc: Global,
+    detail: Detail,
     whole: &Whole,
-    asked: &[Asked],
+    program: &Program,
     number: u32,
-    values: &[Term],
+    machine: &Machine,
 ) -> Result<Text, AllocError>
-    ensures { IfOk result (λ text. text ≡ answer_text whole.now asked.now number values.now) }
+    requires { machine.now.phase ≡ Told Answer }
+    ensures { IfOk result (λ text. option_map (answer_text detail whole.now program.now number) (last_leaf machine.now) ≡ Some text) }
 {
-    let mut text = Text::of(alloc, "answer ")?;
-    push_number(&mut text, number)?;
-    text.push_str("\n")?;
-    push_answer_lines(alloc, &mut text, whole, asked, values)?;
+    let mut text = numbered(alloc, "answer ", number, "\n")?;
+    push_body(alloc, &mut text, detail, whole, program, machine)?;
     Ok(text)
+}
+
+/// Appends what the machine's last answer says after its number.
+fn push_body(
+    alloc: Global,
+    text: &mut Text,
+    detail: Detail,
+    whole: &Whole,
+    program: &Program,
+    machine: &Machine,
+) -> Result<(), AllocError>
+    requires { machine.now.phase ≡ Told Answer }
+    ensures { OnOk result (option_map (λ leaf. text.old ++ answer_body detail whole.now program.now leaf) (last_leaf machine.now) ≡ Some text.new) }
+{
+    match detail {
+        Detail::Values => push_values(alloc, text, whole, program, machine),
+        Detail::Reasons => push_reasons(alloc, text, whole, program, machine),
+        Detail::Derivations => push_derivation(alloc, text, whole, program, machine),
+    }
+}
+
+/// Appends the values of the machine's last answer.
+fn push_values(
+    alloc: Global,
+    text: &mut Text,
+    whole: &Whole,
+    program: &Program,
+    machine: &Machine,
+) -> Result<(), AllocError>
+    requires { machine.now.phase ≡ Told Answer }
+    ensures { OnOk result (option_map (λ leaf. text.old ++ answer_body Values whole.now program.now leaf) (last_leaf machine.now) ≡ Some text.new) }
+{
+    let values = machine.values(alloc)?;
+    push_answer_lines(alloc, text, whole, program.asked.as_slice(), &values)
+}
+
+/// Appends the values of the machine's last answer, and why it holds.
+fn push_reasons(
+    alloc: Global,
+    text: &mut Text,
+    whole: &Whole,
+    program: &Program,
+    machine: &Machine,
+) -> Result<(), AllocError>
+    requires { machine.now.phase ≡ Told Answer }
+    ensures { OnOk result (option_map (λ leaf. text.old ++ answer_body Reasons whole.now program.now leaf) (last_leaf machine.now) ≡ Some text.new) }
+{
+    let values = machine.values(alloc)?;
+    let derivation = machine.derivation(alloc)?;
+    push_answer_lines(alloc, text, whole, program.asked.as_slice(), &values)?;
+    let lines = explain(alloc, &whole.templates, &whole.names, program, &derivation)?;
+    text.push_str("because\n")?;
+    text.push_str(lines.as_str())
+}
+
+/// Appends the text of the derivation of the machine's last answer.
+fn push_derivation(
+    alloc: Global,
+    text: &mut Text,
+    whole: &Whole,
+    program: &Program,
+    machine: &Machine,
+) -> Result<(), AllocError>
+    requires { machine.now.phase ≡ Told Answer }
+    ensures { OnOk result (option_map (λ leaf. text.old ++ answer_body Derivations whole.now program.now leaf) (last_leaf machine.now) ≡ Some text.new) }
+{
+    let derivation = machine.derivation(alloc)?;
+    let lines = write(alloc, &derivation)?;
+    text.push_str(lines.as_str())
 }
 
 /// Appends what an answer says.
@@ -141,7 +223,7 @@ fn push_value_line(
     Ok(())
 }
 
-/// The end line where as many answers stand as were asked for.
+/// The last line where the limit on answers is reached.
 pub fn stopped(alloc: Global, most: u32) -> Result<Text, AllocError>
     ensures { IfOk result (λ text. text ≡ stopped_line most) }
 {
@@ -177,4 +259,86 @@ pub fn ended(alloc: Global, budget: u32, next: Next) -> Result<Report, AllocErro
         Next::Answer => (Text::new(alloc), 0),
     };
     Ok(Report { text, status })
+}
+
+/// Appends a count in decimal digits.
+fn push_count(text: &mut Text, count: usize) -> Result<(), AllocError>
+    ensures { OnOk result (text.new ≡ text.old ++ decimal count) }
+{
+    let mut buffer = Buffer::new();
+    text.push_str(buffer.format(count as u64))
+}
+
+/// What is said of the derivation of this number, on which this is the verdict.
+pub fn certificate(
+    alloc: Global,
+    whole: &Whole,
+    program: &Program,
+    number: usize,
+    verdict: &Verdict,
+) -> Result<Text, AllocError>
+    ensures { IfOk result (λ text. text ≡ verdict_text whole.now program.now number (verdict_by verdict.now)) }
+{
+    match verdict {
+        Verdict::Accepted(values) => accepted(alloc, whole, program, number, values.as_slice()),
+        Verdict::Refused { node, why } => refused_at(alloc, number, *node, *why),
+    }
+}
+
+/// A count between two texts.
+fn counted(alloc: Global, front: &str, count: usize, back: &str) -> Result<Text, AllocError>
+    ensures { IfOk result (λ text. text ≡ front.now ++ (decimal count ++ back.now)) }
+{
+    let mut text = Text::of(alloc, front)?;
+    push_count(&mut text, count)?;
+    text.push_str(back)?;
+    Ok(text)
+}
+
+/// That the derivation of this number is accepted, with its values.
+fn accepted(
+    alloc: Global,
+    whole: &Whole,
+    program: &Program,
+    number: usize,
+    values: &[Term],
+) -> Result<Text, AllocError>
+    ensures { IfOk result (λ text. text ≡ verdict_text whole.now program.now number (accepted_with values.now)) }
+{
+    let mut text = counted(alloc, "certificate ", number, " accepted\n")?;
+    push_answer_lines(alloc, &mut text, whole, program.asked.as_slice(), values)?;
+    Ok(text)
+}
+
+/// That the derivation of this number is refused at this node, and why.
+fn refused_at(alloc: Global, number: usize, node: u32, why: u8) -> Result<Text, AllocError>
+    ensures { IfOk result (λ text. text ≡ refused_text number node why) }
+{
+    let mut text = counted(alloc, "certificate ", number, " refused at node ")?;
+    push_fault(&mut text, node, why)?;
+    Ok(text)
+}
+
+/// Appends the node where a derivation is refused, and why.
+fn push_fault(text: &mut Text, node: u32, why: u8) -> Result<(), AllocError>
+    ensures { OnOk result (text.new ≡ text.old ++ fault_text node why) }
+{
+    push_number(text, node)?;
+    text.push_str(": why ")?;
+    push_number(text, u32::from(why))?;
+    text.push_str("\n")
+}
+
+/// How many derivations are accepted.
+pub fn all_accepted(alloc: Global, count: usize) -> Result<Text, AllocError>
+    ensures { IfOk result (λ text. text ≡ all_accepted_line count) }
+{
+    counted(alloc, "", count, " certificates accepted\n")
+}
+
+/// That a line of a bundle doesn't fit.
+pub fn unfit(alloc: Global, line: u32) -> Result<Text, AllocError>
+    ensures { IfOk result (λ text. text ≡ unfit_line line) }
+{
+    numbered(alloc, "bundle refused at line ", line, "\n")
 }

@@ -247,7 +247,7 @@ fn tasks(rt: HostRuntime) -> Result<(), Fail> {
 }
 
 // Command lines that aren't valid.
-const OTHERS: [&[&str]; 12] = [
+const OTHERS: [&[&str]; 14] = [
     &[],
     &["--help"],
     &["answer"],
@@ -259,7 +259,9 @@ const OTHERS: [&[&str]; 12] = [
     &["answer", "--query", "one", "--answers", "007"],
     &["answer", "--query", "one", "--answers", "+7"],
     &["clauses", "one"],
-    &["explain", "--query", "one"],
+    &["explain"],
+    &["certify", "one"],
+    &["check", "one"],
 ];
 
 #[test]

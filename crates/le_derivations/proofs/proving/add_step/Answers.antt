@@ -12,11 +12,11 @@ returns c = λ abstract leaf is are.
     let at = c.in_ok-at.at in
     let more : c.in-Some.proofs ≡ (c.args.proving.now.proofs - c.taken_proofs-taken.result) + 1 = search rules in
     let same : c.deref.result.now ≡ old = search rules in
-    let back : reverse (take at old) ≡ behind c.args.step.place (reverse old) = subst (λ ns. reverse (take at ns) ≡ behind c.args.step.place (reverse ns)) same c.in_ok-at.ensures.behind in
-    let below : c.into_vec.result.items ≡ c.args.step.below = search rules in
-    let parted : reverse (drop at old) ++ behind c.args.step.place (reverse old) ≡ reverse old =
+    let back : reverse (take at old) ≡ behind c.args.step.now.place (reverse old) = subst (λ ns. reverse (take at ns) ≡ behind c.args.step.now.place (reverse ns)) same c.in_ok-at.ensures.behind in
+    let below : c.as_slice.result.now ≡ c.args.step.now.below = search rules in
+    let parted : reverse (drop at old) ++ behind c.args.step.now.place (reverse old) ≡ reverse old =
     ap (λ ns. reverse (drop at old) ++ ns) (sym back) ∙ (sym (reverse-append (take at old) (drop at old)) ∙ ap reverse (take-append-drop at old)) in
-    goes-up c.args.step abstract leaf (reverse old) (reverse (drop at old)) (reverse c.put_in.new.nodes.items) c.args.proving.now.proofs c.taken_proofs-taken.result c.in-Some.proofs
+    goes-up c.args.step.now abstract leaf (reverse old) (reverse (drop at old)) (reverse c.put_in.new.nodes.items) c.args.proving.now.proofs c.taken_proofs-taken.result c.in-Some.proofs
     c.args.proving.now.by c.put_after.new.self c.with_count-first.result is are c.in_ok-put_after.ensures c.taken_proofs-taken.ensures more
     (c.with_count-first.ensures ∙ ap (with_count c.taken_proofs-taken.result) c.in_ok-node.ensures) parted
     (c.in_ok-put_in.ensures ∙ ap₂ (λ b ns. reverse (drop at old) ++ (c.with_count-first.result ∷ (b ++ ns))) below back)

@@ -1,9 +1,12 @@
-use Rattle.std.proofs.Common.{◌≡◌, ◌++◌, reverse, vec_len}
+use Rattle.std.proofs.Common.{◌≡◌, ◌≤◌, ◌++◌, drop, length, reverse}
 use Rattle.le_derivations.proofs.proving.push_reversed.Given as goal
 
--- the nodes that are left, before those that are there, are all of them before those that were there
-abbrev pub invariant-loop-last : goal.invariant-loop-last
-invariant-loop-last l = l.more.items ++ reverse l.nodes.items ≡ l.fn.more.items ++ reverse l.fn.nodes.items
+-- the nodes that were put stand before those that were there
+abbrev pub invariant-loop-at : goal.invariant-loop-at
+invariant-loop-at l = record {
+  inside : l.at ≤ length l.more;
+  same : reverse l.nodes.items ≡ drop l.at l.more ++ reverse l.fn.nodes.items;
+}
 
-abbrev pub decreases-loop-last : goal.decreases-loop-last
-decreases-loop-last l = vec_len l.more
+abbrev pub decreases-loop-at : goal.decreases-loop-at
+decreases-loop-at l = l.at

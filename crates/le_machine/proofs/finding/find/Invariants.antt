@@ -1,20 +1,20 @@
-use Rattle.std.proofs.Common.{◌≤◌, ℕ, reverse}
+use Rattle.std.proofs.Common.{◌≤◌, ℕ}
 use Rattle.le_terms.specs.declared.program.Program.{Program}
-use Rattle.le_machine.specs.declared.goals.Stack.{Stack}
+use Rattle.le_machine.specs.declared.goals.Searches.{Searches}
 use Rattle.le_machine.specs.declared.goals.Turn.{Turn}
-use Rattle.le_machine.specs.Keeping.{AreOpen}
+use Rattle.le_machine.specs.Keeping.{AreReady}
 use Rattle.le_machine.specs.Turns.{Comes, IsReadyTurn}
 use Rattle.le_machine.proofs.finding.find.Given as goal
 
 -- what is done next comes to what was to be done
-pub record Goes (program : Program) (before left : ℕ) (then_ : Stack) (first : Turn) (now : Stack) (turn : Turn) : Type 0 where
-  pub comes : (budget given : ℕ) → Comes program budget given before (reverse then_.goals.items) (reverse then_.searches.items) first → Comes program budget given left (reverse now.goals.items) (reverse now.searches.items) turn
+pub record Goes (program : Program) (before left : ℕ) (then_ : Searches) (first : Turn) (now : Searches) (turn : Turn) : Type 0 where
+  pub comes : (budget given : ℕ) → Comes program budget given then_ first before → Comes program budget given now turn left
   pub ready : IsReadyTurn left turn
-  pub opens : AreOpen left now.goals.items
+  pub opens : AreReady left now
   pub fewer : left ≤ before
 
 abbrev pub invariant-loop-goal : goal.invariant-loop-goal
-invariant-loop-goal l = Goes l.program l.initial.left l.left l.initial.stack l.fn.first l.stack l.turn
+invariant-loop-goal l = Goes l.program l.initial.left l.left l.initial.searches l.fn.first l.searches l.turn
 
 abbrev pub decreases-loop-goal : goal.decreases-loop-goal
 decreases-loop-goal l = l.left

@@ -1,5 +1,5 @@
-use Rattle.le_machine.specs.declared.changing.Change.TheVariants.{Raise}
-use Rattle.le_machine.proofs.Parts.{tree-at}
+use Rattle.le_literals.specs.declared.changing.Change.TheVariants.{Raise}
+use Rattle.le_literals.proofs.Items.{tree-at}
 use Rattle.le_machine.proofs.resolving.head_equations.Goals as goal
 
 pub raised_term-requires : goal.raised_term-requires

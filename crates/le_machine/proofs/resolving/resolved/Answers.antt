@@ -1,4 +1,4 @@
-use Rattle.le_machine.proofs.Parts.{body-vars}
+use Rattle.le_literals.proofs.Items.{body-vars}
 use Rattle.le_machine.proofs.resolving.resolved.Goals as goal
 
 pub push_changed-requires : goal.push_changed-requires

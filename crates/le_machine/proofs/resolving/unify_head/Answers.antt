@@ -1,4 +1,4 @@
-use Rattle.le_machine.proofs.Parts.{head-vars}
+use Rattle.le_literals.proofs.Items.{head-vars}
 use Rattle.le_machine.proofs.resolving.unify_head.Goals as goal
 
 pub head_equations-requires : goal.head_equations-requires

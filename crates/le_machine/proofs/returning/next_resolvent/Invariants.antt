@@ -3,8 +3,7 @@ use Rattle.le_terms.specs.declared.program.Atom.{Atom}
 use Rattle.le_terms.specs.declared.program.Clause.{Clause}
 use Rattle.le_terms.specs.declared.program.Literal.{Literal}
 use Rattle.le_proofs.specs.Goals.{Goal}
-use Rattle.le_machine.specs.Keeping.{goal_of}
-use Rattle.le_machine.specs.Turns.{children_from}
+use Rattle.le_machine.specs.Keeping.{goal_of, children_from}
 use Rattle.le_machine.proofs.returning.next_resolvent.Given as goal
 
 -- the clauses that were tried have no child

@@ -1,5 +1,5 @@
 use Rattle.std.proofs.Common.{length, ◌-◌, ◌≡◌, ◌++◌, drop}
-use Rattle.le_tool.specs.Report.{value_lines}
+use Rattle.le_tool.specs.Lines.{value_lines}
 use Rattle.le_tool.proofs.report.push_value_lines.Given as goal
 
 -- the lines so far, with those of the values still to come, are those of all values

@@ -1,5 +1,6 @@
-use Rattle.std.proofs.Common.{◌<◌, ◌^◌, ◌+◌, reverse, subst, arith}
+use Rattle.std.proofs.Common.{◌<◌, ◌^◌, ◌+◌, subst, arith}
 use Rattle.le_machine.specs.State.{Advances}
+use Rattle.le_machine.specs.declared.goals.Found.{Found}
 use Rattle.le_machine.specs.declared.goals.Found.TheVariants.{Leaf}
 use Rattle.le_machine.proofs.Advancing.{given-fits}
 use Rattle.le_machine.proofs.machine.Machine.next.Goals as goal
@@ -7,8 +8,8 @@ use Rattle.le_machine.proofs.machine.Machine.next.Goals as goal
 pub overflow_add-self : goal.overflow_add-self
 overflow_add-self c =
     let m = c.self.inside in
-    let found : Advances m.program.now m.budget m.given (Leaf c.in-Ok-Leaf.terms) c.advance-found.new.left (reverse c.advance-found.new.stack.goals.items) (reverse c.advance-found.new.stack.searches.items) =
-    subst (λ f. Advances m.program.now m.budget m.given f c.advance-found.new.left (reverse c.advance-found.new.stack.goals.items) (reverse c.advance-found.new.stack.searches.items)) c.in-Ok-Leaf.field-0-is
+    let found : Advances m.program.now m.budget m.given (Leaf c.in-Ok-Leaf.terms) c.advance-found.new.left c.advance-found.new.searches =
+    subst (λ (f : Found). Advances m.program.now m.budget m.given f c.advance-found.new.left c.advance-found.new.searches) c.in-Ok-Leaf.field-0-is
     (c.in-Ok-Leaf.ensures.found m.budget m.given m.terms.items c.self.invariant.small c.self.invariant.stands) in
     let fits : m.given + 1 < 2 ^ 64 = given-fits m.program.now m.budget m.given c.self.invariant.program_ c.self.invariant.small found.0 in
     omega arith

@@ -1,7 +1,9 @@
-use Rattle.std.proofs.Common.{◌≡◌, ◌<◌, ◌^◌, length, reverse, ap, subst, sym, ◌∙◌, Some, option_map}
+use Rattle.std.proofs.Common.{◌≡◌, ◌<◌, ◌^◌, length, ap, subst, sym, ◌∙◌, Some, option_map}
 use Rattle.le_terms.specs.Variables.{all_variables, canonical_of}
 use Rattle.le_proofs.specs.Proofs.{Leaf}
+use Rattle.le_proofs.specs.SearchTree.{empty_leaf}
 use Rattle.le_proofs.specs.declared.next.Next.TheVariants.{Answer}
+use Rattle.le_derivations.proofs.GoingUp.{along-terms}
 use Rattle.le_machine.specs.declared.phase.Phase.TheVariants.{Told}
 use Rattle.le_machine.specs.State.{IsAtLeaf, Stands, last_values}
 use Rattle.le_machine.proofs.Advancing.{values-few}
@@ -12,14 +14,14 @@ pub canonical-requires : goal.canonical-requires
 canonical-requires c =
     let m = c.self.inside in
     let told : m.phase ≡ Told Answer = ap (λ s. s.phase) c.self.view_is ∙ c.requires in
-    let at : IsAtLeaf m.program.now m.budget m.given m.left (reverse m.stack.goals.items) (reverse m.stack.searches.items) m.terms.items = subst (λ phase. Stands phase m.program.now m.budget m.given m.left m.stack m.terms.items) told c.self.invariant.stands in
-    subst (λ ts. length (all_variables ts) < 2 ^ 32) (sym c.deref.ensures.value) (values-few m.program.now m.budget m.given m.left (reverse m.stack.goals.items) (reverse m.stack.searches.items) m.terms.items c.self.invariant.program_ c.self.invariant.small at)
+    let at : IsAtLeaf m.program.now m.budget m.given m.left m.searches m.terms.items = subst (λ phase. Stands phase m.program.now m.budget m.given m.left m.searches m.terms.items) told c.self.invariant.stands in
+    subst (λ ts. length (all_variables ts) < 2 ^ 32) (sym c.deref.ensures.value) (values-few m.program.now m.budget m.given m.left m.searches m.terms.items c.self.invariant.program_ c.self.invariant.small at)
 
 pub returns : goal.returns
 returns c =
     let m = c.self.inside in
     let told : m.phase ≡ Told Answer = ap (λ s. s.phase) c.self.view_is ∙ c.requires in
-    let at : IsAtLeaf m.program.now m.budget m.given m.left (reverse m.stack.goals.items) (reverse m.stack.searches.items) m.terms.items = subst (λ phase. Stands phase m.program.now m.budget m.given m.left m.stack m.terms.items) told c.self.invariant.stands in
+    let at : IsAtLeaf m.program.now m.budget m.given m.left m.searches m.terms.items = subst (λ phase. Stands phase m.program.now m.budget m.given m.left m.searches m.terms.items) told c.self.invariant.stands in
     let seen : last_values c.args.self.now ≡ Some (canonical_of m.terms.items) =
-    ap last_values (sym c.self.view_is) ∙ (ap (option_map (λ (leaf : Leaf). canonical_of leaf.terms)) at.place ∙ ap (λ ts. Some (canonical_of ts)) at.terms_) in
+    ap last_values (sym c.self.view_is) ∙ (ap (option_map (λ (leaf : Leaf). canonical_of leaf.terms)) at.place ∙ ap (λ ts. Some (canonical_of ts)) (along-terms at.steps (empty_leaf m.terms.items m.left))) in
     ok-all (λ values. values.items ≡ canonical_of c.deref.result.now) _ (λ values same. seen ∙ ap Some (sym (same ∙ ap canonical_of c.deref.ensures.value))) c.canonical.result c.canonical.ensures

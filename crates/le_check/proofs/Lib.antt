@@ -1,0 +1,11 @@
+pub mod Branching
+pub mod Built
+pub mod Choosing
+pub mod Expected
+pub mod Growing
+pub mod Judging
+pub mod Passing
+pub mod Resuming
+pub mod SameNodes
+pub mod ToCome
+pub mod Unifying

@@ -1,0 +1,13 @@
+use Rattle.std.proofs.Common.{◌≤◌, length, sym, subst, refl, rules, arith}
+use Rattle.le_check.proofs.Built.{AreBuilt, clause-built}
+use Rattle.le_check.proofs.tests.clause.Goals as goal
+
+pub returns : goal.returns
+returns c =
+    let few : length c.in_ok-literals.field-0.items ≤ 30 = omega (arith, c.in_ok-literals.ensures.few) in
+    let built : AreBuilt c.in_ok-literals.field-0.items 30 = record {
+      literals_ = c.in_ok-literals.ensures.literals;
+      variables = c.in_ok-literals.ensures.variables;
+      few = few;
+    } in
+    clause-built _ 30 (omega arith) c.in_ok-atom.ensures.pred c.in_ok-atom.ensures.arity c.in_ok-atom.ensures.variables (subst (λ ls. AreBuilt ls 30) (sym c.from_vec.ensures) built) refl

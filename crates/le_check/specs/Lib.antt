@@ -1,0 +1,9 @@
+pub mod Goals
+pub mod Left
+pub mod Meetings
+pub mod Parts
+pub mod Progress
+pub mod Replays
+pub mod Resolvents
+pub mod Roles
+pub mod Verdicts

@@ -1,0 +1,3 @@
+pub mod Items
+pub mod Raising
+pub mod Walks

@@ -1,8 +1,0 @@
-use Rattle.std.proofs.Common.{◌≡◌, ◌++◌, map, take}
-use Rattle.le_proofs.specs.Goals.{literal_under}
-use Rattle.le_machine.specs.Changing.{by_of}
-use Rattle.le_machine.proofs.changing.push_changed.Given as goal
-
--- the literals so far stand changed behind those that were there
-abbrev pub invariant-loop-literal : goal.invariant-loop-literal
-invariant-loop-literal l = l.changed.items ≡ l.initial.changed.items ++ map (literal_under (by_of l.change)) (take l.literal-index l.literals)
