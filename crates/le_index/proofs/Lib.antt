@@ -1,3 +1,3 @@
-mod KeyLaw
+pub mod KeyLaw
 mod Listings
 mod Searching

@@ -24,13 +24,13 @@ abbrev pub IsChild : code.Goal → ℕ → Atom → ℕ → Clause → Option co
 IsChild goal place atom number clause answer =
     (literal : Literal) → option_map child_of answer ≡ option_map (child_by (goal_of goal) (placed goal.literals.items place literal) number clause) (head_solution goal.next clause atom)
 
--- the next clause's child before the others, if there is one
-abbrev pub Follows : Goal → ℕ → Literal → Atom → List Clause → ℕ → Option code_child.Child → Type 0
-Follows goal place literal atom clauses i None = children_from goal place literal atom clauses i ≡ children_from goal place literal atom clauses (i + 1)
-Follows goal place literal atom clauses i (Some child) = GoOn (children_from goal place literal atom clauses i) (Some child) (children_from goal place literal atom clauses (i + 1))
+-- a child by the clauses from a place on before those by the clauses from a later one, if there is one
+abbrev pub Follows : Goal → ℕ → Literal → Atom → List Clause → ℕ → ℕ → Option code_child.Child → Type 0
+Follows goal place literal atom clauses i j None = children_from goal place literal atom clauses i ≡ children_from goal place literal atom clauses j
+Follows goal place literal atom clauses i j (Some child) = GoOn (children_from goal place literal atom clauses i) (Some child) (children_from goal place literal atom clauses j)
 
 pub follows : (goal : code.Goal) (place : ℕ) (literal : Literal) (atom : Atom) (clauses : List Clause) (i : ℕ) (d clause : Clause) (answer : Option code_child.Child) → i < length clauses → get_or clauses i d ≡ clause → IsChild goal place atom (i + 1) clause answer
-    → Follows (goal_of goal) place literal atom clauses i answer
+    → Follows (goal_of goal) place literal atom clauses i (i + 1) answer
 follows goal place literal atom clauses i d clause answer within read is = by answer (is literal)
   where
     split : children_from (goal_of goal) place literal atom clauses i ≡ cons_option (option_map (child_by (goal_of goal) (placed goal.literals.items place literal) (i + 1) clause) (head_solution goal.next clause atom)) (children_from (goal_of goal) place literal atom clauses (i + 1))
@@ -38,7 +38,7 @@ follows goal place literal atom clauses i d clause answer within read is = by an
         ap (children (goal_of goal) (placed goal.literals.items place literal) atom (i + 1)) (rest-from clauses i d clause within read)
         ∙ ap (λ n. cons_option (option_map (child_by (goal_of goal) (placed goal.literals.items place literal) (i + 1) clause) (head_solution goal.next clause atom)) (children (goal_of goal) (placed goal.literals.items place literal) atom n (drop (i + 1) clauses))) (sym (add-one (i + 1)))
 
-    by : (a : Option code_child.Child) → option_map child_of a ≡ option_map (child_by (goal_of goal) (placed goal.literals.items place literal) (i + 1) clause) (head_solution goal.next clause atom) → Follows (goal_of goal) place literal atom clauses i a
+    by : (a : Option code_child.Child) → option_map child_of a ≡ option_map (child_by (goal_of goal) (placed goal.literals.items place literal) (i + 1) clause) (head_solution goal.next clause atom) → Follows (goal_of goal) place literal atom clauses i (i + 1) a
     by None h = split ∙ ap (λ o. cons_option o (children_from (goal_of goal) place literal atom clauses (i + 1))) (sym h)
     by (Some child) h = split ∙ ap (λ o. cons_option o (children_from (goal_of goal) place literal atom clauses (i + 1))) (sym h)
 

@@ -19,6 +19,8 @@ use Rattle.le_machine.specs.declared.goals.Found.{Found}
 use Rattle.le_machine.specs.declared.goals.Found.TheVariants.{Leaf as Found_leaf, End}
 use Rattle.le_machine.specs.Keeping.{IsUnderWay, AreReady}
 use Rattle.le_derivations.specs.Paths.{AreSteps}
+use Rattle.le_index.specs.declared.index.Index.{Index}
+use Rattle.le_index.specs.Listing.{IsIndexOf}
 
 -- a machine as contracts see it: its program and budget, how many answers it gave, and what its calls of `next` answered
 pub record Shown : Type 0 where
@@ -118,9 +120,10 @@ CanAdvance Fresh left searches = (left ≤ 1000000) × IsEmpty searches
 CanAdvance (Told next) left searches = CanAdvanceAfter next left searches
 CanAdvance Lost left searches = Unit {0}
 
--- a machine's program and budget are well formed, and its parts stand so
-pub record IsMachine (program : Program) (budget given : ℕ) (phase : Phase) (left : ℕ) (searches : Searches) (terms : List Tree) : Type 0 where
+-- a machine's program and budget are well formed, its index is that of the program's clauses, and its parts stand so
+pub record IsMachine (program : Program) (index : Index) (budget given : ℕ) (phase : Phase) (left : ℕ) (searches : Searches) (terms : List Tree) : Type 0 where
   pub program_ : IsProgram program
+  pub index_ : IsIndexOf index program.clauses
   pub small : budget ≤ 1000000
   pub fits : left ≤ budget
   pub stands : Stands phase program budget given left searches terms

@@ -1,5 +1,6 @@
 ghost use Rattle.std.specs.Prelude.{◌≤◌, ℕ, IfOk};
 ghost use Rattle.le_terms.specs.Program.{IsProgram};
+ghost use Rattle.le_index.specs.Listing.{IsIndexOf};
 ghost use Rattle.le_machine.specs.Keeping.{AreReady};
 ghost use Rattle.le_machine.specs.State.{Advances};
 ghost use Rattle.le_machine.specs.Turns.{Comes, SettledComes, IsReadyTurn, IsReadySettled};
@@ -7,6 +8,7 @@ ghost use Rattle.le_machine.specs.Turns.{Comes, SettledComes, IsReadyTurn, IsRea
 use crate::goals::{Found, Searches, Settled, Turn};
 use crate::returning::{back, leaf};
 use crate::visiting::visit;
+use le_index::Index;
 use le_terms::Program;
 use std::alloc::{AllocError, Global};
 
@@ -14,11 +16,13 @@ use std::alloc::{AllocError, Global};
 pub(crate) fn find(
     alloc: Global,
     program: &Program,
+    index: &Index,
     searches: &mut Searches,
     left: &mut u32,
     first: Turn,
 ) -> Result<Found, AllocError>
     requires program { IsProgram program.now }
+    requires index { IsIndexOf index.now program.now.clauses }
     requires first { IsReadyTurn left.old first }
     requires opens { AreReady left.old searches.old }
     ensures found { IfOk result (λ found. (budget given : ℕ) → Comes program.now budget given searches.old first left.old → Advances program.now budget given found left.new searches.new) }
@@ -27,7 +31,7 @@ pub(crate) fn find(
 {
     let mut turn = first;
     loop {
-        match settle(alloc, program, searches, *left, turn)? {
+        match settle(alloc, program, index, searches, *left, turn)? {
             Settled::Goal(goal) => match visit(alloc, program, searches, left, goal)? {
                 Turn::Found(found) => return Ok(found),
                 next => turn = next,
@@ -41,11 +45,13 @@ pub(crate) fn find(
 fn settle(
     alloc: Global,
     program: &Program,
+    index: &Index,
     searches: &mut Searches,
     left: u32,
     first: Turn,
 ) -> Result<Settled, AllocError>
     requires program { IsProgram program.now }
+    requires index { IsIndexOf index.now program.now.clauses }
     requires first { IsReadyTurn left first }
     requires opens { AreReady left searches.old }
     ensures comes { IfOk result (λ settled. (budget given : ℕ) → Comes program.now budget given searches.old first left → SettledComes program.now budget given searches.new settled left) }
@@ -56,7 +62,7 @@ fn settle(
     loop {
         turn = match turn {
             Turn::Found(found) => return Ok(Settled::Found(found)),
-            Turn::Back => back(alloc, program, searches, left)?,
+            Turn::Back => back(alloc, program, index, searches, left)?,
             Turn::Visit(goal) => {
                 if !goal.literals.is_empty() {
                     return Ok(Settled::Goal(goal));

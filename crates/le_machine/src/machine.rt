@@ -1,5 +1,6 @@
 ghost use Rattle.std.specs.Prelude.{◌≡◌, ◌≤◌, ℕ, List, Some, IfOk, OnOk, OnErr, IsErr};
 ghost use Rattle.le_terms.specs.Program.{IsProgram};
+ghost use Rattle.le_index.specs.Listing.{IsIndexOf};
 ghost use Rattle.le_machine.specs.declared.phase.Phase.TheVariants.{Told, Lost};
 ghost use Rattle.le_proofs.specs.declared.next.Next.TheVariants.{Answer};
 ghost use Rattle.le_machine.specs.State.{started, next_answer, told, lost, last_values, last_derivation, Selections, Stands, CanAdvance, Advances, AdvancesFor};
@@ -11,6 +12,7 @@ use crate::phase::Phase;
 use crate::searching::begun;
 use crate::starting::root;
 use le_derivations::derivation_of;
+use le_index::Index;
 use le_proofs::{Derivation, Next};
 use le_terms::{Program, Term, canonical};
 use std::alloc::{AllocError, Global};
@@ -22,6 +24,7 @@ use std::marker::Model;
 #[derive(Drop)]
 pub struct Machine<'p> {
     program: &'p Program,
+    index: Index,
     budget: u32,
     given: u64,
     phase: Phase,
@@ -41,7 +44,7 @@ impl<'p> Model for Machine<'p> {
 
     ghost view = { λ m. record { program = m.program.now; budget = m.budget; given = m.given; phase = m.phase } };
 
-    ghost invariant = { λ m. IsMachine m.program.now m.budget m.given m.phase m.left m.searches m.terms.items };
+    ghost invariant = { λ m. IsMachine m.program.now m.index m.budget m.given m.phase m.left m.searches m.terms.items };
 }
 
 impl<'p> Machine<'p> {
@@ -58,6 +61,7 @@ impl<'p> Machine<'p> {
     {
         Ok(Machine {
             program,
+            index: Index::make(alloc, program.clauses.as_slice())?,
             budget,
             given: 0,
             phase: Phase::Fresh,
@@ -82,6 +86,7 @@ impl<'p> Machine<'p> {
         let found = advance(
             alloc,
             self.program,
+            &self.index,
             self.phase,
             &mut self.searches,
             &mut self.left,
@@ -137,11 +142,13 @@ impl<'p> Machine<'p> {
 fn advance(
     alloc: Global,
     program: &Program,
+    index: &Index,
     phase: Phase,
     searches: &mut Searches,
     left: &mut u32,
 ) -> Result<Found, AllocError>
     requires program { IsProgram program.now }
+    requires index { IsIndexOf index.now program.now.clauses }
     requires ready { CanAdvance phase left.old searches.old }
     ensures found { IfOk result (λ found. (budget given : ℕ) (terms : List Tree) → budget ≤ 1000000 → Stands phase program.now budget given left.old searches.old terms → Advances program.now budget given found left.new searches.new) }
     ensures fewer { left.new ≤ left.old }
@@ -151,9 +158,9 @@ fn advance(
     match phase {
         Phase::Fresh => {
             let goal = root(alloc, program)?;
-            find(alloc, program, searches, left, Turn::Visit(goal))
+            find(alloc, program, index, searches, left, Turn::Visit(goal))
         }
-        Phase::Told(Next::Answer) => find(alloc, program, searches, left, Turn::Back),
+        Phase::Told(Next::Answer) => find(alloc, program, index, searches, left, Turn::Back),
         Phase::Told(next) => Ok(Found::End(next)),
         Phase::Lost => Err(AllocError),
     }

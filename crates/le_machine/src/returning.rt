@@ -15,6 +15,7 @@ ghost use Rattle.le_proofs.specs.Goals.{Goal as AnyGoal, sub_goal, is_ground_ato
 ghost use Rattle.le_proofs.specs.Proofs.{Leaf};
 ghost use Rattle.le_proofs.specs.Search.{tree, value_of, is_covered, folding, goes_on};
 ghost use Rattle.le_derivations.specs.Walks.{walk_of};
+ghost use Rattle.le_index.specs.Listing.{IsIndexOf};
 ghost use Rattle.le_machine.specs.Keeping.{AreReady, goal_of, put_at, children_from, Selects, IsFor, IsWalk, Walks, IsUnderWay, IsReady, IsOpen, AreOpen, CanWait, AreComputable};
 ghost use Rattle.le_machine.specs.Turns.{Leads, LeadsBy, WalksBy, AreUnderWay, Comes, IsReadyTurn, GoOn, IsReadyClause, SplitIs, weight, opens_weight, waiting_weight, turn_weight};
 
@@ -25,6 +26,7 @@ use crate::goals::{
 use crate::resolving::{replaced_literal, resolve};
 use crate::searching::{go_on, note, note_all, note_present};
 use le_derivations::PathStep;
+use le_index::{Index, key_of};
 use le_proofs::{Next, Node, Nodes};
 use le_subst::Subst;
 use le_terms::{Atom, Clause, Form, Program, Sym, Term};
@@ -35,10 +37,12 @@ use std::mem;
 pub(crate) fn back(
     alloc: Global,
     program: &Program,
+    index: &Index,
     searches: &mut Searches,
     left: u32,
 ) -> Result<Turn, AllocError>
     requires program { IsProgram program.now }
+    requires index { IsIndexOf index.now program.now.clauses }
     requires opens { AreReady left searches.old }
     ensures comes { IfOk result (λ turn. (budget given : ℕ) → AreUnderWay program.now budget given searches.old None left → Comes program.now budget given searches.new turn left) }
     ensures ready { IfOk result (IsReadyTurn left) }
@@ -46,7 +50,7 @@ pub(crate) fn back(
     ensures lighter { IfOk result (λ turn. turn_weight turn + weight (length program.now.clauses) searches.new < 1 + weight (length program.now.clauses) searches.old) }
 {
     if let Some(pending) = searches.inner.opens.pop() {
-        return next_child(alloc, program, &mut searches.inner, pending, left);
+        return next_child(alloc, program, index, &mut searches.inner, pending, left);
     }
     match searches.waiting.pop() {
         None => Ok(Turn::Found(Found::End(Next::Done))),
@@ -58,11 +62,13 @@ pub(crate) fn back(
 fn next_child(
     alloc: Global,
     program: &Program,
+    index: &Index,
     search: &mut Search,
     pending: OpenGoal,
     left: u32,
 ) -> Result<Turn, AllocError>
     requires program { IsProgram program.now }
+    requires index { IsIndexOf index.now program.now.clauses }
     requires pending { IsOpen left pending.goal pending.place }
     requires opens { AreOpen left search.old.opens.items }
     ensures comes { IfOk result (λ turn. (root : AnyGoal) (total less : ℕ) (found : List Leaf) → IsWalk program.now search.old.keeps search.old.path.items search.old.nodes.items (pending ∷ reverse search.old.opens.items) root total None less found → WalksBy program.now search.new root total turn less found) }
@@ -72,7 +78,14 @@ fn next_child(
     ensures lighter { IfOk result (λ turn. turn_weight turn + opens_weight (length program.now.clauses) search.new.opens.items < 1 + ((2 * (length program.now.clauses - pending.from) + 2) + opens_weight (length program.now.clauses) search.old.opens.items)) }
 {
     let mut tried = pending.from;
-    let child = child_by_form(alloc, program, &pending.goal, pending.place, &mut tried)?;
+    let child = child_by_form(
+        alloc,
+        program,
+        index,
+        &pending.goal,
+        pending.place,
+        &mut tried,
+    )?;
     let Some((node, child)) = child else {
         count_children(search, pending.split, pending.children);
         return Ok(Turn::Back);
@@ -140,11 +153,13 @@ fn enter(
 fn child_by_form(
     alloc: Global,
     program: &Program,
+    index: &Index,
     goal: &Goal,
     place: usize,
     from: &mut usize,
 ) -> Result<Option<(Node, Child)>, AllocError>
     requires program { IsProgram program.now }
+    requires index { IsIndexOf index.now program.now.clauses }
     requires fits { goal.now.next + 64 < 2 ^ 32 }
     requires inside { place < length goal.now.literals.items }
     requires computable { AreComputable goal.now.literals.items }
@@ -157,7 +172,7 @@ fn child_by_form(
         return Ok(None);
     };
     let clauses = program.clauses.as_slice();
-    match next_resolvent(alloc, clauses, goal, place, atom, from)? {
+    match next_resolvent(alloc, clauses, index, goal, place, atom, from)? {
         None => Ok(None),
         Some(child) => {
             let node = Node::Use {
@@ -174,12 +189,14 @@ fn child_by_form(
 fn next_resolvent(
     alloc: Global,
     clauses: &[Clause],
+    index: &Index,
     goal: &Goal,
     place: usize,
     atom: &Atom,
     from: &mut usize,
 ) -> Result<Option<Child>, AllocError>
     requires clauses { AllByRecursion IsReadyClause clauses.now }
+    requires index { IsIndexOf index.now clauses.now }
     requires few { length clauses.now < 2 ^ 31 }
     requires fits { goal.now.next + 64 < 2 ^ 32 }
     requires inside { place < length goal.now.literals.items }
@@ -188,10 +205,14 @@ fn next_resolvent(
     ensures next { IfOk result (λ answer. IfSome answer (λ child. (child.goal.next ≤ goal.now.next + 64) × AreComputable child.goal.literals.items)) }
     ensures tried { IfOk result (λ answer. IfSome answer (λ child. (from.old < from.new) × (from.new ≤ length clauses.now))) }
 {
+    let key = key_of(atom);
     while *from < clauses.len() {
-        let clause = &clauses[*from];
-        *from += 1;
-        if let Some(child) = resolve(alloc, goal, place, atom, *from as u32, clause)? {
+        let Some(number) = index.candidate(atom.pred, key, *from as u32 + 1) else {
+            return Ok(None);
+        };
+        *from = number as usize;
+        let clause = &clauses[*from - 1];
+        if let Some(child) = resolve(alloc, goal, place, atom, number, clause)? {
             return Ok(Some(child));
         }
     }

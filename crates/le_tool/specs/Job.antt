@@ -1,22 +1,12 @@
 -- The words of the command line: this project's profile.
-use Rattle.std.specs.Prelude.{ℕ, ◌+◌, ◌<◌, ◌≤◌, ◌==◌, ◌&&◌, nat_le, if◌then◌else◌, List, [], ◌∷◌, slice_index, Option, None, Some, is_none, IfSome, codes, ℤ, pos, negsuc}
+use Rattle.std.specs.Prelude.{ℕ, ◌+◌, ◌<◌, ◌≤◌, ◌&&◌, if◌then◌else◌, List, [], ◌∷◌, Option, None, Some, is_none, IfSome, codes}
 use Rattle.std.specs.Option.{option_map, option_and_then, unwrap_or}
 use Rattle.std.specs.Str.{bytes_eq}
-use Rattle.le_values.specs.Numbers.{number_of}
+use Rattle.le_bundle.specs.Numbers.{count_up_to}
 use Rattle.le_tool.specs.declared.jobs.Command.{Command}
 use Rattle.le_tool.specs.declared.jobs.Command.TheVariants.{Answer, Explain, Certify, Clauses, Check}
 use Rattle.le_tool.specs.declared.jobs.Options.{Options}
 use Rattle.le_tool.specs.declared.jobs.Task.{Task}
-
--- the number, where it is from 1 to this one
-abbrev pub from_one : ℕ → Option ℤ → Option ℕ
-from_one most None = None
-from_one most (Some (negsuc n)) = None
-from_one most (Some (pos n)) = if nat_le 1 n && nat_le n most then Some n else None
-
--- the number from 1 to this one that the word is, in digits without a sign or a leading zero
-unfoldable pub count_up_to : ℕ → List ℕ → Option ℕ
-count_up_to most word = if slice_index word 0 == 48 then None else from_one most (number_of word)
 
 abbrev pub with_query : Options → ℕ → Options
 with_query o place = record { query = Some place; scenario = o.scenario; budget = o.budget; answers = o.answers }

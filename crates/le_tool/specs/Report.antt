@@ -9,6 +9,7 @@ use Rattle.le_clauses.specs.Selection.{selected}
 use Rattle.le_listing.specs.ClauseText.{clauses_text}
 use Rattle.le_english.specs.Explanations.{explanation}
 use Rattle.le_prooftext.specs.Lines.{derivation_text}
+use Rattle.le_bundle.specs.Endings.{end_words, stopped_words}
 use Rattle.le_bundle.specs.Head.{head_text}
 use Rattle.le_proofs.specs.declared.next.Next.{Next}
 use Rattle.le_proofs.specs.declared.next.Next.TheVariants.{Answer, Done, Floundered, OutOfRange, Spent}
@@ -52,11 +53,7 @@ answers_text detail whole program before (leaf ∷ leaves) =
 
 -- the line of a search's end, with its budget
 abbrev pub end_line : ℕ → Next → List ℕ
-end_line budget Done = codes "no more answers\n"
-end_line budget (Floundered line) = codes "floundered at line " ++ (decimal line ++ codes "\n")
-end_line budget (OutOfRange line) = codes "out of range at line " ++ (decimal line ++ codes "\n")
-end_line budget Spent = codes "budget spent after " ++ (decimal budget ++ codes " selections\n")
-end_line budget Answer = []
+end_line budget next = end_words budget next ++ codes "\n"
 
 abbrev pub end_status : Next → ℕ
 end_status Done = 0
@@ -67,7 +64,7 @@ end_status Answer = 0
 
 -- the last line where as many answers were found as were asked for
 abbrev pub stopped_line : ℕ → List ℕ
-stopped_line most = codes "stopped after " ++ (decimal most ++ codes " answers\n")
+stopped_line most = stopped_words most ++ codes "\n"
 
 -- what follows the answers, where the search has so many and ends so
 abbrev pub last_line : ℕ → ℕ → ℕ → Next → List ℕ

@@ -1,7 +1,7 @@
 ghost use Rattle.std.specs.Prelude.{◌≡◌, ℕ, ◌+◌, ◌<◌, ◌≤◌, length, map, string_bytes, take, drop, IfSome};
-ghost use Rattle.le_tool.specs.Job.{count_up_to, no_options, with_option, options_from, search_task as search_task_of, search_command as search_command_of, single_command as single_command_of, lone_command as lone_command_of, job_of, AreOptions};
+ghost use Rattle.le_tool.specs.Job.{no_options, with_option, options_from, search_task as search_task_of, search_command as search_command_of, single_command as single_command_of, lone_command as lone_command_of, job_of, AreOptions};
 
-use le_values::number_of;
+use le_bundle::count_up_to;
 
 /// What the command line asks for.
 #[derive(Clone, Copy, Debug, PartialEq, Eq)]
@@ -189,20 +189,4 @@ fn with_option(options: Options, name: &str, place: usize, value: &str) -> Optio
         });
     }
     None
-}
-
-/// The number from 1 to `most` that a word is, in digits without a sign or a leading zero.
-#[tactic(auto, unfolding(crate::specs::Job::count_up_to))]
-fn count_up_to(most: u32, word: &str) -> Option<u32>
-    ensures exact { result ≡ count_up_to most word.now }
-    ensures within { IfSome result (λ n. (1 ≤ n) × (n ≤ most)) }
-{
-    if word.starts_with('0') {
-        return None;
-    }
-    let number = number_of(word)?;
-    if number < 1 || number > i64::from(most) {
-        return None;
-    }
-    Some(number as u32)
 }

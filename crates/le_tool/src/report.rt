@@ -13,6 +13,7 @@ ghost use Rattle.le_tool.specs.Report.{answer_body, answer_text, stopped_line, e
 use crate::asking::Detail;
 use itoa::Buffer;
 use le_base::{Code, Refusal, Text};
+use le_bundle::{end_words, stopped_words};
 use le_check::Verdict;
 use le_clauses::Whole;
 use le_english::{explain, say_term};
@@ -227,9 +228,8 @@ fn push_value_line(
 pub fn stopped(alloc: Global, most: u32) -> Result<Text, AllocError>
     ensures { IfOk result (λ text. text ≡ stopped_line most) }
 {
-    let mut text = Text::of(alloc, "stopped after ")?;
-    push_number(&mut text, most)?;
-    text.push_str(" answers\n")?;
+    let mut text = stopped_words(alloc, most)?;
+    text.push_str("\n")?;
     Ok(text)
 }
 
@@ -248,17 +248,24 @@ pub fn ended(alloc: Global, budget: u32, next: Next) -> Result<Report, AllocErro
     ensures text { IfOk result (λ report. report.text ≡ end_line budget next) }
     ensures status { IfOk result (λ report. report.status ≡ end_status next) }
 {
-    let (text, status) = match next {
-        Next::Done => (Text::of(alloc, "no more answers\n")?, 0),
-        Next::Floundered(line) => (numbered(alloc, "floundered at line ", line, "\n")?, 3),
-        Next::OutOfRange(line) => (numbered(alloc, "out of range at line ", line, "\n")?, 9),
-        Next::Spent => (
-            numbered(alloc, "budget spent after ", budget, " selections\n")?,
-            4,
-        ),
-        Next::Answer => (Text::new(alloc), 0),
-    };
-    Ok(Report { text, status })
+    let mut text = end_words(alloc, budget, next)?;
+    text.push_str("\n")?;
+    Ok(Report {
+        text,
+        status: end_status(next),
+    })
+}
+
+// The status that goes with a search's end.
+fn end_status(next: Next) -> u8
+    ensures { result ≡ end_status next }
+{
+    match next {
+        Next::Done | Next::Answer => 0,
+        Next::Floundered(_) => 3,
+        Next::OutOfRange(_) => 9,
+        Next::Spent => 4,
+    }
 }
 
 /// Appends a count in decimal digits.

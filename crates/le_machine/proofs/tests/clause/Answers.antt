@@ -1,4 +1,4 @@
-use Rattle.std.proofs.Common.{◌≤◌, length, sym, subst, refl, rules, arith}
+use Rattle.std.proofs.Common.{◌≤◌, length, sym, subst, refl, arith}
 use Rattle.le_machine.proofs.Built.{AreBuilt, clause-built}
 use Rattle.le_machine.proofs.tests.clause.Goals as goal
 

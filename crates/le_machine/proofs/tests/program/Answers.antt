@@ -1,4 +1,4 @@
-use Rattle.std.proofs.Common.{◌≡◌, ◌≤◌, ◌<◌, [], length, sym, subst, refl, ◌∙◌, rules, arith, le_refl}
+use Rattle.std.proofs.Common.{◌≤◌, ◌<◌, length, sym, subst, refl, ◌∙◌, arith, le_refl}
 use Rattle.std.specs.List.{AllByRecursion}
 use Rattle.le_machine.proofs.Built.{AreBuilt, AreBuiltClauses, program-built}
 use Rattle.le_machine.proofs.tests.program.Goals as goal
