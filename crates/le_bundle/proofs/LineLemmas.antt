@@ -1,8 +1,8 @@
 -- The lines of a text, taken one by one.
-use Rattle.std.proofs.Common.{◌≡◌, ℕ, zero, suc, ◌+◌, ◌<◌, ◌≤◌, ◌==◌, true, false, cond, List, [], ◌∷◌, ◌++◌, length, take, drop, slice_index, Option, None, Some, Ok, Err, refl, ap, sym, ◌∙◌, arith}
+use Rattle.std.proofs.Common.{◌≡◌, ℕ, zero, suc, ◌+◌, ◌<◌, ◌==◌, true, false, cond, List, [], ◌∷◌, ◌++◌, length, take, drop, slice_index, Option, None, Some, Ok, Err, refl, ap, sym, ◌∙◌, arith}
 use Rattle.std.proofs.lemmas.Bool.{eqb-true, false_from_ne_true}
 use Rattle.memchr.specs.Find.{IsFirstByte, is_byte}
-use Rattle.le_bundle.specs.Lines.{Line, whole, cut, with_byte, lines_of, last_lines, read_by, next_line}
+use Rattle.le_bundle.specs.Lines.{whole, cut, with_byte, lines_of, last_lines, read_by, next_line}
 
 -- a line up to an LF, and what follows it
 first_whole : (text : List ℕ) (k : ℕ) → k < length text → ((j : ℕ) → j < k → (slice_index text j == 10) ≡ true → ⊥) → (slice_index text k == 10) ≡ true →

@@ -5,3 +5,4 @@ pub mod Lines
 pub mod Numbers
 pub mod Parts
 pub mod Reads
+pub mod Written

@@ -1,5 +1,5 @@
 -- The lines of a text, and reading them one by one: this project's profile.
-use Rattle.std.specs.Prelude.{ℕ, ◌+◌, ◌==◌, Bool, true, false, if◌then◌else◌, List, [], ◌∷◌, Option, None, Some, Result, Ok, Err}
+use Rattle.std.specs.Prelude.{ℕ, ◌+◌, ◌==◌, if◌then◌else◌, List, [], ◌∷◌, Option, None, Some, Result, Ok, Err}
 
 -- a line without its LF: a whole one has it, and only the last may lack it
 pub data Line : Type 0 where

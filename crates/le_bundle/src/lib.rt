@@ -5,6 +5,7 @@
 
 mod endings;
 mod head;
+mod laws;
 mod numbers;
 mod opening;
 mod parts;
@@ -15,6 +16,7 @@ mod unfit;
 
 pub use endings::{end_words, stopped_words};
 pub use head::head_lines;
+pub use laws::bundles_read_back;
 pub use numbers::count_up_to;
 pub use opening::open;
 pub use parts::Parts;

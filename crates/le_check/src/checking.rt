@@ -14,7 +14,12 @@ use le_terms::Program;
 use std::alloc::{AllocError, Global};
 use std::sync::ledger::Ledger;
 
-/// The verdict on a derivation of a program's query.
+/// The verdict on a derivation of a program's query: accepted with the values of what is asked for, where it is one
+/// that Lloyd's definition of a refutation admits, else refused at the first node that doesn't fit, with the reason.
+///
+/// A derivation may have at most 60,000,000 nodes, which is more than a bundle within its limit of bytes holds. `steps`
+/// rises by one for each unification that is tried: at most one for each node, and one for each clause of its predicate
+/// at each split. `Err` comes only where memory is out.
 pub fn check<L: Ledger>(
     alloc: Global,
     program: &Program,

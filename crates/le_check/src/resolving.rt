@@ -1,16 +1,14 @@
-ghost use Rattle.std.specs.Prelude.{◌≡◌, ◌≢◌, ◌+◌, ◌^◌, ◌<◌, ◌≤◌, ◌∷◌, [], map, zip, length, IfOk};
-ghost use Rattle.le_terms.specs.Variables.{all_occurrences};
+ghost use Rattle.std.specs.Prelude.{◌≡◌, ◌≢◌, ◌+◌, ◌^◌, ◌<◌, ◌≤◌, ◌∷◌, [], map, length, IfOk};
 ghost use Rattle.le_terms.specs.Program.{IsClause, IsProgram};
 ghost use Rattle.le_terms.specs.declared.program.Literal.{Literal as AnyLiteral};
 ghost use Rattle.le_terms.specs.declared.program.Form.TheVariants.{Pos};
-ghost use Rattle.le_proofs.specs.Goals.{Child, children, terms_under, literals_under, raised, head_solution, resolvent_by, rest_by, rest_goal};
+ghost use Rattle.le_proofs.specs.Goals.{Child, children, head_solution, resolvent_by, rest_by, rest_goal};
 ghost use Rattle.le_proofs.specs.Replay.{clauses_of};
 ghost use Rattle.le_check.specs.Resolvents.{goal_with};
-ghost use Rattle.le_literals.specs.Changing.{CanRaise};
 ghost use Rattle.le_check.specs.Goals.{goal_of, placed};
 
 use crate::goal::Goal;
-use le_literals::{Change, changed_terms, push_changed, raised_term};
+use le_literals::{Change, changed_terms, head_equations, push_changed};
 use le_subst::{Steps, Subst, solve_counted};
 use le_terms::{Atom, Clause, Form, Literal, Program, Term};
 use std::alloc::{AllocError, Global};
@@ -40,27 +38,6 @@ pub(crate) fn unify_head<L: Ledger>(
         atom.args.as_slice(),
     )?;
     solve_counted(alloc, &equations, steps)
-}
-
-// The equations of a head's arguments, renamed apart, with others, as far as both go.
-fn head_equations(
-    alloc: Global,
-    next: u32,
-    head: &[Term],
-    args: &[Term],
-) -> Result<Vec<(Term, Term)>, AllocError>
-    requires { CanRaise next (all_occurrences head.now) }
-    ensures { IfOk result (λ equations. equations.items ≡ zip (terms_under (raised next) head.now) args.now) }
-{
-    let mut equations = Vec::with_capacity(alloc, args.len())?;
-    for (place, left) in head.iter().enumerate() {
-        if place >= args.len() {
-            return Ok(equations);
-        }
-        let raised = raised_term(alloc, next, left)?;
-        equations.push((raised, args[place].copy(alloc)?))?;
-    }
-    Ok(equations)
 }
 
 // The resolvent of a goal by a clause, in the place of the literal at this place, under a unifier.

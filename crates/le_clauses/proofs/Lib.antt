@@ -1,6 +1,12 @@
+pub mod SayableTerms
+pub mod SayableParts
+pub mod SayableDrafts
+pub mod Sayable
+pub mod Arities
+pub mod DraftSizes
+pub mod ValidWhole
 pub mod DraftSteps
 pub mod ShapeLaws
-pub mod ValidSteps
 pub mod NumberSteps
 pub mod ReadSteps
 pub mod Exits

@@ -1,6 +1,5 @@
 -- The numbering of variables by their places, over symbols and lists.
-use Rattle.std.proofs.Common.{◌≡◌, ℕ, ◌+◌, ◌<◌, ◌≤◌, List, [], ◌∷◌, ◌++◌, length, map, get_or, drop, refl, sym, ap, subst, ◌∙◌, append_assoc, drop_of_length-le}
-use Rattle.std.specs.List.{AllByRecursion}
+use Rattle.std.proofs.Common.{◌≡◌, ℕ, ◌+◌, ◌<◌, List, [], ◌∷◌, ◌++◌, length, map, get_or, drop, refl, sym, ap, ◌∙◌, append_assoc}
 use Rattle.std.proofs.lemmas.List.{drop_more, map-append}
 use Rattle.le_terms.specs.Tree.{Tree, constant, number, date, variable, nil, cell, flat}
 use Rattle.le_terms.specs.Variables.{occurrences, all_occurrences, replaced}
@@ -21,15 +20,6 @@ numbered-flat vars (cell head tail) =
 pub occurrences_append : (xs ys : List Tree) → all_occurrences (xs ++ ys) ≡ all_occurrences xs ++ all_occurrences ys
 occurrences_append [] ys = refl
 occurrences_append (x ∷ xs) ys = ap (λ vs. occurrences x ++ vs) (occurrences_append xs ys) ∙ sym (append_assoc (occurrences x) (all_occurrences xs) (all_occurrences ys))
-
--- ---- what holds of each item of a list
-
-pub all_step : {X : Type 0} (P : X → Type 0) (xs : List X) (i : ℕ) (x : X) → i < length xs → x ≡ get_or xs i x → P x → AllByRecursion P (drop (i + 1) xs) → AllByRecursion P (drop i xs)
-all_step P xs i x low is h rest =
-    subst (AllByRecursion P) (sym (drop_more xs i x low)) (subst P is h, rest)
-
-pub all_end : {X : Type 0} (P : X → Type 0) (xs : List X) (i : ℕ) → length xs ≤ i → AllByRecursion P (drop i xs)
-all_end P xs i h = subst (AllByRecursion P) (sym (drop_of_length-le xs h)) tt
 
 -- ---- the variables of literals, one more literal at a time
 

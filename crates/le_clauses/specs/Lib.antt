@@ -10,3 +10,4 @@ pub mod Rules
 pub mod Pieces
 pub mod Selection
 pub mod Validity
+pub mod Saying

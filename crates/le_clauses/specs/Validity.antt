@@ -1,5 +1,5 @@
 -- What the whole of a document keeps: this project's profile.
-use Rattle.std.specs.Prelude.{◌≡◌, ℕ, ◌+◌, ◌<◌, ◌≤◌, Some, List, length, flat_map, slice_get, get_or}
+use Rattle.std.specs.Prelude.{◌≡◌, ℕ, ◌+◌, ◌<◌, ◌≤◌, Some, List, length, flat_map, slice_get}
 use Rattle.std.specs.List.{AllByRecursion}
 use Rattle.le_terms.specs.declared.program.Clause.{Clause}
 use Rattle.le_terms.specs.Program.{IsProgramClause, IsLiteral, HasVariablesBelow, literals_terms, predefined_count, predefined_arities}
@@ -28,11 +28,3 @@ pub record IsWhole (whole : Whole) : Type 0 where
   pub predefined : (pred : ℕ) → pred < predefined_count → slice_get predefined_arities pred ≡ Some (arity pred)
   pub pieces : AllByRecursion (IsPiece arity (predicates_of whole)) whole.pieces
   pub few : length (all_clauses whole.pieces) ≤ 50000
-
--- the numbers of arguments that a table has
-abbrev pub arity_in : List ℕ → ℕ → ℕ
-arity_in table pred = get_or table pred 0
-
--- the predefined predicates have their numbers of arguments by a table
-abbrev pub HasPredefined : List ℕ → Type 0
-HasPredefined table = (pred : ℕ) → pred < predefined_count → slice_get predefined_arities pred ≡ Some (arity_in table pred)

@@ -20,10 +20,9 @@ mod selecting;
 mod tests;
 mod translate;
 mod translating;
-mod validity;
 mod whole;
 
-pub use laws::truth_kept;
+pub use laws::{programs_can_be_said, truth_kept};
 pub use part::Part;
 pub use selecting::select;
 pub use translating::program;

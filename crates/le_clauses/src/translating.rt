@@ -1,4 +1,4 @@
-ghost use Rattle.std.specs.Prelude.{◌≡◌, Ok, length, All, IfOk};
+ghost use Rattle.std.specs.Prelude.{◌≡◌, length, All, IfOk};
 ghost use Rattle.le_base.specs.Stop.{Gives};
 ghost use Rattle.le_layout.specs.Layout.{IsLayout};
 ghost use Rattle.le_docs.specs.Bounds.{IsSentenceOver, IsSectionOver};
@@ -8,7 +8,6 @@ ghost use Rattle.le_clauses.specs.Validity.{IsWhole};
 use crate::declaring::declared;
 use crate::queries::query;
 use crate::rules::rule;
-use crate::validity::is_valid;
 use crate::{Piece, Pieces, Whole};
 use le_base::{Span, Stop, Text};
 use le_docs::{Doc, Section, SectionKind};
@@ -48,27 +47,12 @@ pub fn program(alloc: Global, layout: &Layout, doc: &Doc) -> Result<Whole, Stop>
         &mut groups,
         sections,
     )?;
-    valid_whole(
-        alloc,
-        Whole {
-            templates,
-            names,
-            groups: Groups::from_vec(groups),
-            pieces: Pieces::from_vec(pieces),
-        },
-    )
-}
-
-// The whole, which is valid: what isn't so can't be translated, and would be answered as out of memory.
-fn valid_whole(alloc: Global, whole: Whole) -> Result<Whole, Stop>
-    ensures exact { Gives (λ w. w) result (Ok whole) }
-    ensures sound { IfOk result IsWhole }
-{
-    if is_valid(alloc, &whole)? {
-        Ok(whole)
-    } else {
-        Err(Stop::Memory)
-    }
+    Ok(Whole {
+        templates,
+        names,
+        groups: Groups::from_vec(groups),
+        pieces: Pieces::from_vec(pieces),
+    })
 }
 
 // The pieces of sections in order. So many clauses stand before them, and then behind them.

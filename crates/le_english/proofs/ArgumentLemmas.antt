@@ -11,7 +11,8 @@ use Rattle.le_values.proofs.NumberLemmas.{written}
 use Rattle.le_scope.specs.Scopes.{ScopeState}
 use Rattle.le_english.specs.Phrases.{word_of, name_phrase, variable_phrase, phrase_of, rest_of, phrases_of}
 use Rattle.le_english.specs.Saying.{ReadsAll}
-use Rattle.le_english.specs.Atoms.{index_of, numbered, printed, scope_of, IsTermToSay, AreTermsToSay}
+use Rattle.le_match.specs.Sayable.{IsTermToSay, AreTermsToSay}
+use Rattle.le_english.specs.Atoms.{index_of, numbered, printed, scope_of}
 use Rattle.le_english.proofs.DayLemmas.{day-back}
 use Rattle.le_english.proofs.NameLemmas.{name-has, name-reads}
 use Rattle.le_english.proofs.PhraseLemmas.{ReadsSimply, form-simple}

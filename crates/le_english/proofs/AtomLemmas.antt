@@ -31,7 +31,8 @@ use Rattle.le_match.specs.Readings.{parts_at}
 use Rattle.le_english.specs.Phrases.{open_sign, close_sign, comma_sign, bar_sign, is_plain_name, name_phrase, is_seen, variable_phrase, phrase_of, rest_of, phrases_of}
 use Rattle.le_english.specs.Sentences.{IsPhrase, Fills}
 use Rattle.le_english.specs.Saying.{AllOf, AllPhrases}
-use Rattle.le_english.specs.Atoms.{say_text, HasTerms, IsTermToSay, AreTermsToSay, IsAtomToSay, printed, numbered, scope_of, variables_in, ReadsBackAs, ReadsBackAlone}
+use Rattle.le_match.specs.Sayable.{HasTerms, IsTermToSay, AreTermsToSay}
+use Rattle.le_english.specs.Atoms.{say_text, IsAtomToSay, printed, numbered, scope_of, variables_in, ReadsBackAs, ReadsBackAlone}
 use Rattle.le_english.proofs.AsciiLemmas.{ascii-word}
 use Rattle.le_english.proofs.ArgumentLemmas.{Fits, small-tree, term-tree, arguments-read}
 use Rattle.le_english.proofs.BackLemmas.{reads-back}

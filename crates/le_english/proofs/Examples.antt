@@ -1,5 +1,5 @@
 -- Worked examples of the sentences of atoms and the phrases of terms.
-use Rattle.std.proofs.Common.{◌≡◌, ℕ, negsuc, List, [], ◌∷◌, codes, refl, true, false}
+use Rattle.std.proofs.Common.{◌≡◌, ℕ, negsuc, List, [], ◌∷◌, codes, refl}
 use Rattle.std.specs.Fmt.{digits}
 use Rattle.std.specs.Str.{chars, is_utf8}
 use lib.Utf8.{encode}
@@ -20,7 +20,7 @@ use Rattle.le_templates.specs.Table.{template, predefined}
 use Rattle.le_terms.specs.Tree.{constant, variable, nil, cell, number}
 use Rattle.le_scope.specs.Phrases.{is_plain_word, is_plain, is_name, is_determiner, begins_otherwise, is_indefinite, article, word_form, simple_form, phrase_form, phrase_name}
 use Rattle.le_match.specs.Readings.{readings_of, best_of}
-use Rattle.le_english.specs.Phrases.{word_of, quoted, scanned, is_plain_the, is_plain_name, name_phrase, variable_phrase, term_text}
+use Rattle.le_english.specs.Phrases.{word_of, quoted, is_plain_the, is_plain_name, name_phrase, variable_phrase, term_text}
 use Rattle.le_english.specs.Saying.{reads_alone, sentence_text}
 use Rattle.le_english.specs.Atoms.{say_text}
 

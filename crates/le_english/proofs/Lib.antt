@@ -4,7 +4,7 @@ mod AsciiLemmas
 mod AtomLemmas
 mod BackLemmas
 mod DayLemmas
-mod DeclaredLemmas
+pub mod DeclaredLemmas
 mod DraftLemmas
 mod ExplainExamples
 mod Examples
@@ -13,6 +13,7 @@ mod Forms
 mod LineLemmas
 mod LineSteps
 mod NameLemmas
+mod NamedTerms
 mod Passing
 mod PhraseLemmas
 mod PlainLemmas
@@ -20,6 +21,9 @@ mod ProofLines
 mod ReadingLemmas
 mod Refuted
 mod Reshaped
+mod SaidLiterals
+pub mod SaidNodes
+mod SaidTrees
 mod SayLemmas
 mod SymbolLemmas
 mod TermLemmas

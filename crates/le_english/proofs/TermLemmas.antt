@@ -9,7 +9,8 @@ use Rattle.le_terms.specs.Names.{HasNoRepeats}
 use Rattle.le_terms.specs.Variables.{occurrences}
 use Rattle.le_english.specs.Phrases.{phrase_of, term_text}
 use Rattle.le_english.specs.Saying.{AllOf}
-use Rattle.le_english.specs.Atoms.{printed, numbered, scope_of, IsTermToSay, TermReadsBackAs, TermReadsBack}
+use Rattle.le_match.specs.Sayable.{IsTermToSay}
+use Rattle.le_english.specs.Atoms.{printed, numbered, scope_of, TermReadsBackAs, TermReadsBack}
 use Rattle.le_english.proofs.ArgumentLemmas.{Fits, term-tree}
 use Rattle.le_english.proofs.AtomLemmas.{phrase-written}
 use Rattle.le_english.proofs.TreeLemmas.{tree-phrase, tree-reads}

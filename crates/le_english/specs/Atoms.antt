@@ -1,19 +1,17 @@
 -- The sentence of an atom, and what it needs to read back: this project's profile.
-use Rattle.std.specs.Prelude.{◌≡◌, ℕ, ◌+◌, ◌^◌, ◌<◌, ◌==◌, true, false, if◌then◌else◌, Ok, List, [], ◌∷◌, ◌++◌, length, map, slice_index_or, codes, decimal}
+use Rattle.std.specs.Prelude.{◌≡◌, ℕ, ◌+◌, ◌<◌, ◌==◌, true, false, if◌then◌else◌, Ok, List, [], ◌∷◌, ◌++◌, length, map, codes, decimal}
 use Rattle.std.specs.List.{list_any}
 use Rattle.le_layout.specs.declared.layout.Layout.{Layout}
 use Rattle.le_layout.specs.Layout.{layout_of}
-use Rattle.le_layout.specs.Written.{IsQuotable}
-use Rattle.le_templates.specs.declared.part.Part.{Part}
-use Rattle.le_templates.specs.declared.part.Part.TheVariants.{Word, Slot}
 use Rattle.le_templates.specs.declared.part.Template.{Template}
 use Rattle.le_templates.specs.Table.{in_use}
-use Rattle.le_terms.specs.Tree.{Tree, constant, number, date, variable, nil, cell, IsNumber, IsDay}
+use Rattle.le_terms.specs.Tree.{Tree, variable}
 use Rattle.le_terms.specs.Names.{HasNoRepeats}
 use Rattle.le_terms.specs.Variables.{occurrences, all_occurrences, replaced}
 use Rattle.le_scope.specs.Phrases.{is_phrase}
 use Rattle.le_scope.specs.Scopes.{ScopeState}
 use Rattle.le_match.specs.Readings.{parts_at}
+use Rattle.le_match.specs.Sayable.{HasTerms, AreTermsToSay}
 use Rattle.le_match.specs.Terms.{term_of}
 use Rattle.le_english.specs.Phrases.{phrases_of, term_text}
 use Rattle.le_english.specs.Declarations.{AreDeclared}
@@ -52,27 +50,6 @@ abbrev pub variables_in : List Tree → List ℕ
 variables_in trees = printed [] (all_occurrences trees)
 
 -- ---- the atoms that read back
-
--- there is a term for each slot
-abbrev pub HasTerms : List Part → List Tree → Type 0
-HasTerms [] [] = Unit {0}
-HasTerms [] (tree ∷ trees) = ⊥
-HasTerms (Word w ∷ parts) trees = HasTerms parts trees
-HasTerms (Slot s ∷ parts) [] = ⊥
-HasTerms (Slot s ∷ parts) (tree ∷ trees) = HasTerms parts trees
-
--- each constant of a term has a name, which holds only what a quoted text may hold, and its numbers, days and variables are those that a term may have
-abbrev pub IsTermToSay : List (List ℕ) → Tree → Type 0
-IsTermToSay names (constant n) = (n < length names) × IsQuotable (slice_index_or names n [])
-IsTermToSay names (number z) = IsNumber z
-IsTermToSay names (date d) = IsDay d
-IsTermToSay names (variable v) = v < 2 ^ 32
-IsTermToSay names nil = Unit {0}
-IsTermToSay names (cell head tail) = IsTermToSay names head × IsTermToSay names tail
-
-abbrev pub AreTermsToSay : List (List ℕ) → List Tree → Type 0
-AreTermsToSay names [] = Unit {0}
-AreTermsToSay names (tree ∷ trees) = IsTermToSay names tree × AreTermsToSay names trees
 
 -- the atom of a template in use of a document's templates, with a term for each slot whose names can be quoted
 pub record IsAtomToSay (users : List Template) (names : List (List ℕ)) (pred : ℕ) (trees : List Tree) : Type 0 where

@@ -2,6 +2,7 @@ pub mod Atoms
 pub mod Declarations
 pub mod Explanations
 pub mod Lines
+pub mod Nodes
 pub mod Phrases
 pub mod Proofs
 pub mod Saying

@@ -11,7 +11,8 @@ ghost use Rattle.le_scope.specs.Scopes.{ScopeState};
 ghost use Rattle.le_terms.specs.Tree.{Tree};
 ghost use Rattle.le_english.specs.Sentences.{sentence, Fills, has_slot, HasOneOfEach};
 ghost use Rattle.le_english.specs.Saying.{HasWords, IsSayable, ReadsBack, sentence_text};
-ghost use Rattle.le_english.specs.Atoms.{IsAtomToSay, ReadsBackAlone, IsTermToSay, TermReadsBack};
+ghost use Rattle.le_match.specs.Sayable.{IsTermToSay};
+ghost use Rattle.le_english.specs.Atoms.{IsAtomToSay, ReadsBackAlone, TermReadsBack};
 ghost use Rattle.le_english.specs.Declarations.{IsDeclaredAfter, AreDeclared};
 ghost use Rattle.le_terms.specs.Names.{HasNoRepeats};
 

@@ -22,5 +22,5 @@ mod unshown;
 pub use explaining::explain;
 pub use laws::{atom_reads_back, declared_templates, one_reading, reads_back, term_reads_back};
 pub use phrases::say_term;
-pub use proof_laws::{explains_admitted, explains_proofs};
+pub use proof_laws::{answers_read_back, explains_admitted, explains_proofs};
 pub use sentences::say;

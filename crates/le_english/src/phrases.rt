@@ -5,7 +5,8 @@ ghost use Rattle.le_layout.specs.Joined.{plain};
 ghost use Rattle.le_terms.specs.Names.{HasNoRepeats};
 ghost use Rattle.le_terms.specs.Variables.{occurrences};
 ghost use Rattle.le_english.specs.Phrases.{name_phrase, is_seen, phrase_of, term_text, open_sign, close_sign};
-ghost use Rattle.le_english.specs.Atoms.{IsTermToSay, TermReadsBackAs};
+ghost use Rattle.le_match.specs.Sayable.{IsTermToSay};
+ghost use Rattle.le_english.specs.Atoms.{TermReadsBackAs};
 ghost use Rattle.le_english.specs.Lines.{HasDay, at_item, at_tail, is_cell, last_tail, seen_after, seen_after_all, symbol_phrase, symbols_phrase, thing_phrase, with_tokens};
 
 use crate::line::Line;

@@ -1,6 +1,6 @@
 -- What the tests build is a program.
 use Rattle.std.proofs.Common.{◌≡◌, ℕ, suc, ◌+◌, ◌^◌, ◌<◌, ◌≤◌, List, [], ◌∷◌, ◌++◌, length, get_or, refl, sym, ap, subst, ◌∙◌, append_assoc, append-nil, length-append, inl, zero, arith}
-use Rattle.std.specs.Prelude.{slice_get, Some}
+use Rattle.std.specs.Prelude.{slice_get, Some, Result, Ok, Err, IfOk}
 use Rattle.std.specs.List.{AllByRecursion}
 use Rattle.std.proofs.lemmas.List.{get_or_past}
 use Rattle.le_terms.specs.declared.program.Atom.{Atom}
@@ -8,8 +8,7 @@ use Rattle.le_terms.specs.declared.program.Clause.{Clause}
 use Rattle.le_terms.specs.declared.program.Literal.{Literal}
 use Rattle.le_terms.specs.declared.program.Program.{Program}
 use Rattle.le_terms.specs.Program.{HasVariablesBelow, HasArity, IsLiteral, IsProgramClause, IsProgram, form_terms, literals_terms, clause_terms, predefined_arities, predefined_count}
-use Rattle.le_terms.specs.declared.program.Form.TheVariants.{Pos}
-use Rattle.le_proofs.specs.Goals.{IsAtom, AreAtoms}
+use Rattle.le_terms.specs.declared.program.Form.{Form}
 use Rattle.le_proofs.proofs.Alls.{all-both}
 use Rattle.le_proofs.proofs.Below.{both-below}
 
@@ -19,6 +18,11 @@ arity pred = get_or predefined_arities pred 2
 
 pub arity-two : (k : ℕ) → arity (20 + k) ≡ 2
 arity-two k = get_or_past predefined_arities (20 + k) 2 (omega arith)
+
+-- an atom of two arguments
+pub pair-arity : {E : Type 0} (pred : ℕ) (r : Result Atom E) → pred < 28 → arity pred ≡ 2 → IfOk r (λ atom. atom.pred ≡ pred) → IfOk r (λ atom. length atom.args ≡ 2) → IfOk r (HasArity arity 28)
+pair-arity pred (Ok atom) low two is has = (omega (arith, low, is), has ∙ (sym two ∙ ap arity (sym is)))
+pair-arity pred (Err e) low two is has = tt
 
 there : (ns : List ℕ) (i : ℕ) → i < length ns → slice_get ns i ≡ Some (get_or ns i 2)
 there [] i less = absurd (omega arith)
@@ -36,34 +40,30 @@ literals_terms-push (first ∷ literals) literal =
 -- literals that the tests build
 pub record AreBuilt (literals : List Literal) (most : ℕ) : Type 0 where
   pub literals_ : AllByRecursion (IsLiteral arity 28) literals
-  pub atoms : AreAtoms literals
   pub variables : HasVariablesBelow 4 (literals_terms literals)
   pub few : length literals ≤ most
 
-pub built-push : (literals pushed : List Literal) (atom : Atom) (line most : ℕ) → AreBuilt literals most → 20 ≤ atom.pred → HasArity arity 28 atom → HasVariablesBelow 4 atom.args
-    → pushed ≡ literals ++ record { line = line; form = Pos atom } ∷ [] → AreBuilt pushed (suc most)
-built-push literals pushed atom line most built place has below are =
-    let literal : Literal = record { line = line; form = Pos atom } in
+pub built-push : (literals pushed : List Literal) (form : Form) (line most more : ℕ) → AreBuilt literals most → most < more → IsLiteral arity 28 (record { line = line; form = form }) → HasVariablesBelow 4 (form_terms form)
+    → pushed ≡ literals ++ record { line = line; form = form } ∷ [] → AreBuilt pushed more
+built-push literals pushed form line most more built less is below are =
+    let literal : Literal = record { line = line; form = form } in
     let long : length (literals ++ literal ∷ []) ≡ length literals + length (literal ∷ []) = length-append literals (literal ∷ []) in
-    subst (λ ls. AreBuilt ls (suc most)) (sym are) (record {
-      literals_ = all-push (IsLiteral arity 28) literals literal built.literals_ (omega arith, has);
-      atoms = all-push (λ l. IsAtom l.form) literals literal built.atoms tt;
-      variables = subst (HasVariablesBelow 4) (sym (literals_terms-push literals literal)) (both-below 4 (literals_terms literals) atom.args built.variables below);
-      few = omega (arith, built.few);
+    subst (λ ls. AreBuilt ls more) (sym are) (record {
+      literals_ = all-push (IsLiteral arity 28) literals literal built.literals_ is;
+      variables = subst (HasVariablesBelow 4) (sym (literals_terms-push literals literal)) (both-below 4 (literals_terms literals) (form_terms form) built.variables below);
+      few = omega (arith, built.few, less, long);
     })
 
 -- clauses that the tests build
 pub record AreBuiltClauses (clauses : List Clause) (most : ℕ) : Type 0 where
   pub clauses_ : AllByRecursion (IsProgramClause arity 28) clauses
-  pub atoms : AllByRecursion (λ clause. AreAtoms clause.body) clauses
   pub few : length clauses ≤ most
 
-pub clauses-push : (clauses pushed : List Clause) (clause : Clause) (most : ℕ) → AreBuiltClauses clauses most → IsProgramClause arity 28 clause → AreAtoms clause.body → pushed ≡ clauses ++ clause ∷ [] → AreBuiltClauses pushed (suc most)
-clauses-push clauses pushed clause most built is atoms are =
+pub clauses-push : (clauses pushed : List Clause) (clause : Clause) (most : ℕ) → AreBuiltClauses clauses most → IsProgramClause arity 28 clause → pushed ≡ clauses ++ clause ∷ [] → AreBuiltClauses pushed (suc most)
+clauses-push clauses pushed clause most built is are =
     let long : length (clauses ++ clause ∷ []) ≡ length clauses + length (clause ∷ []) = length-append clauses (clause ∷ []) in
     subst (λ cs. AreBuiltClauses cs (suc most)) (sym are) (record {
       clauses_ = all-push (IsProgramClause arity 28) clauses clause built.clauses_ is;
-      atoms = all-push (λ c. AreAtoms c.body) clauses clause built.atoms atoms;
       few = omega (arith, built.few);
     })
 

@@ -1,13 +1,11 @@
-ghost use Rattle.std.specs.Prelude.{◌≡◌, ◌+◌, ◌^◌, ◌<◌, ◌≤◌, length, zip, option_map, IfOk, IfSome};
-ghost use Rattle.le_terms.specs.Variables.{all_occurrences};
+ghost use Rattle.std.specs.Prelude.{◌≡◌, ◌+◌, ◌^◌, ◌<◌, length, option_map, IfOk};
 ghost use Rattle.le_terms.specs.Program.{IsClause};
 ghost use Rattle.le_terms.specs.declared.program.Literal.{Literal as AnyLiteral};
-ghost use Rattle.le_proofs.specs.Goals.{terms_under, literals_under, raised, head_solution, child_by};
-ghost use Rattle.le_literals.specs.Changing.{CanRaise};
+ghost use Rattle.le_proofs.specs.Goals.{literals_under, raised, head_solution, child_by};
 ghost use Rattle.le_machine.specs.Keeping.{goal_of, child_of, placed, goal_with};
 
 use crate::goals::{Child, Goal};
-use le_literals::{Change, changed_terms, push_changed, raised_term};
+use le_literals::{Change, changed_terms, head_equations, push_changed};
 use le_subst::{Subst, solve};
 use le_terms::{Atom, Clause, Literal, Term};
 use std::alloc::{AllocError, Global};
@@ -60,27 +58,6 @@ fn unify_head(
         atom.args.as_slice(),
     )?;
     solve(alloc, &equations)
-}
-
-// The equations of a head's arguments, renamed apart, with others, as far as both go.
-fn head_equations(
-    alloc: Global,
-    next: u32,
-    head: &[Term],
-    args: &[Term],
-) -> Result<Vec<(Term, Term)>, AllocError>
-    requires { CanRaise next (all_occurrences head.now) }
-    ensures { IfOk result (λ equations. equations.items ≡ zip (terms_under (raised next) head.now) args.now) }
-{
-    let mut equations = Vec::with_capacity(alloc, args.len())?;
-    for (place, left) in head.iter().enumerate() {
-        if place >= args.len() {
-            return Ok(equations);
-        }
-        let raised = raised_term(alloc, next, left)?;
-        equations.push((raised, args[place].copy(alloc)?))?;
-    }
-    Ok(equations)
 }
 
 // The resolvent that a unifier gives.

@@ -1,203 +1,249 @@
-ghost use Rattle.std.specs.Prelude.{◌≡◌, ◌<◌, ◌≤◌, ◌^◌, get_or, length, IfOk};
-ghost use Rattle.std.specs.List.{AllByRecursion};
-ghost use Rattle.le_terms.specs.Variables.{occurrences};
-ghost use Rattle.le_terms.specs.Program.{HasVariablesBelow, HasArity, IsLiteral, IsProgramClause, IsProgram, literals_terms, predefined_arities};
-ghost use Rattle.le_proofs.specs.Goals.{AreAtoms};
-ghost use Rattle.le_proofs.specs.declared.next.Next.TheVariants.{Answer};
-ghost use Rattle.le_machine.specs.declared.phase.Phase.TheVariants.{Told};
-
-use crate::Machine;
-use le_base::Text;
-use le_proofs::Next;
-use le_terms::{
-    Asked, AskedList, Atom, Clause, ClauseKind, Clauses, Form, Groups, Literal, Literals, Program,
-    Sym, Term, Terms,
-};
-use std::alloc::Global;
+use crate::building::program;
+use crate::noting::{answers, derivation};
 use std::test::Fail;
 
-// The term of a letter: `A` to `D` are variables, `L` and `M` the lists of `A` and of `B`, and another
-// letter a constant.
-fn term(alloc: Global, letter: u8) -> Result<Term, Fail>
-    ensures { IfOk result (λ t. AllByRecursion (λ v. v < 4) (occurrences t)) }
-{
-    match letter {
-        b'A'..=b'D' => Ok(Term::leaf(alloc, Sym::Var(u32::from(letter - b'A')))?),
-        b'L' => list(alloc, 0),
-        b'M' => list(alloc, 1),
-        _ => Ok(Term::leaf(alloc, Sym::Name(u32::from(letter)))?),
-    }
-}
+// Searches whose answers come one after another: the clauses, the query, how many variables it asks for, the budget, and
+// what four calls of `next` answer.
+const ORDERED: [(&[&str], &str, u32, u32, &str); 4] = [
+    // three facts, and no more than their one selection
+    (
+        &["pab", "pac", "pad"],
+        "paA",
+        1,
+        1,
+        "!b 01;!c 01;!d 01;D 01;",
+    ),
+    // a rule, whose first condition has an answer that its second one hasn't
+    (
+        &["pab", "pac", "qcd", "rABpACqCB"],
+        "raA",
+        1,
+        9,
+        "!d 04;D 04;D 04;D 04;",
+    ),
+    // variables that stay unbound, and one that stands for both
+    (&["pAB", "pAA"], "pAB", 2, 9, "!AB 01;!AA 01;D 01;D 01;"),
+    // a rule whose variables have the numbers of the query's
+    (&["pbc", "qABpBA"], "qBA", 2, 9, "!bc 02;D 02;D 02;D 02;"),
+];
 
-// The list of a variable.
-fn list(alloc: Global, var: u32) -> Result<Term, Fail>
-    requires { var < 4 }
-    ensures { IfOk result (λ t. AllByRecursion (λ v. v < 4) (occurrences t)) }
-{
-    let head = Term::leaf(alloc, Sym::Var(var))?;
-    let tail = Term::leaf(alloc, Sym::Nil)?;
-    Ok(Term::cons(alloc, &head, &tail)?)
-}
+// Searches that end.
+const ENDED: [(&[&str], &str, u32, u32, &str); 7] = [
+    // a rule that calls itself for ever
+    (&["rABrAB"], "rab", 0, 3, "S 03;S 03;S 03;S 03;"),
+    // and does so often
+    (&["rABrAB"], "rab", 0, 100_000, "S 00;S 00;S 00;S 00;"),
+    // the budget is spent behind two answers
+    (&["pab", "pABpAB"], "paA", 1, 2, "!b 01;!b 02;S 02;S 02;"),
+    // a variable in its own list
+    (&["pAL"], "pAA", 1, 9, "D 01;D 01;D 01;D 01;"),
+    // a list with a variable
+    (&["pLa"], "pAB", 2, 9, "!:A.a 01;D 01;D 01;D 01;"),
+    // a query without literals, and one without clauses
+    (&["pab"], "", 0, 1, "! 00;D 00;D 00;D 00;"),
+    (&["pab"], "qab", 0, 1, "D 01;D 01;D 01;D 01;"),
+];
 
-// The atom of a predicate, `p` to `w`, and its two arguments.
-fn atom(alloc: Global, pred: u8, first: u8, second: u8) -> Result<Atom, Fail>
-    ensures pred { IfOk result (λ atom. 20 ≤ atom.pred) }
-    ensures arity { IfOk result (HasArity (λ pred. get_or predefined_arities pred 2) 28) }
-    ensures variables { IfOk result (λ atom. HasVariablesBelow 4 atom.args) }
-{
-    let mut args = Vec::new(alloc);
-    args.push(term(alloc, first)?)?;
-    args.push(term(alloc, second)?)?;
-    Ok(Atom {
-        pred: 20 + u32::from(pred % 8),
-        args: Terms::from_vec(args),
-    })
-}
+// Searches of negations.
+const NEGATED: [(&[&str], &str, u32, u32, &str); 12] = [
+    // an atom with a proof, and one without
+    (&["pab", "qAB-pAB"], "qab", 0, 9, "D 03;D 03;D 03;D 03;"),
+    (&["pab", "qAB-pAB"], "qac", 0, 9, "! 03;D 03;D 03;D 03;"),
+    // an atom with a variable, at once and after an answer
+    (
+        &["pab", "qAB-pAB"],
+        "qaA",
+        1,
+        9,
+        "F21 02;F21 02;F21 02;F21 02;",
+    ),
+    (
+        &["rab", "rAB-pAB", "pab"],
+        "raA",
+        1,
+        9,
+        "!b 01;F21 02;F21 02;F21 02;",
+    ),
+    // a negation of a negation, where the inner one fails, and where it holds
+    (
+        &["pab", "qAB-pAB", "rAB-qAB"],
+        "rab",
+        0,
+        9,
+        "! 05;D 05;D 05;D 05;",
+    ),
+    (
+        &["pab", "qAB-pAB", "rAB-qAB"],
+        "rac",
+        0,
+        9,
+        "D 05;D 05;D 05;D 05;",
+    ),
+    // the inner one flounders
+    (
+        &["qAB-pAC", "pab", "rAB-qAB"],
+        "rab",
+        0,
+        9,
+        "F11 04;F11 04;F11 04;F11 04;",
+    ),
+    // the first proof of the atom decides, whatever comes after it
+    (
+        &["pab", "pABpAB", "qAB-pAB"],
+        "qab",
+        0,
+        9,
+        "D 03;D 03;D 03;D 03;",
+    ),
+    // the negation fails for the first value and holds for the second
+    (
+        &["pab", "pac", "qab", "rABpAB-qAB"],
+        "raA",
+        1,
+        9,
+        "!c 06;D 06;D 06;D 06;",
+    ),
+    // the budget is spent in the search of the atom, and before it begins
+    (&["pABpAB", "qAB-pAB"], "qab", 0, 5, "S 05;S 05;S 05;S 05;"),
+    (&["pab", "qAB-pAB"], "qac", 0, 2, "S 02;S 02;S 02;S 02;"),
+    // one selection more is enough
+    (&["pab", "qAB-pAB"], "qac", 0, 3, "! 03;D 03;D 03;D 03;"),
+];
 
-// The literals of some letters, three for each.
-fn literals(alloc: Global, letters: &[u8]) -> Result<Vec<Literal>, Fail>
-    ensures literals { IfOk result (λ literals. AllByRecursion (IsLiteral (λ pred. get_or predefined_arities pred 2) 28) literals.items) }
-    ensures atoms { IfOk result (λ literals. AreAtoms literals.items) }
-    ensures variables { IfOk result (λ literals. HasVariablesBelow 4 (literals_terms literals.items)) }
-    ensures few { IfOk result (λ literals. length literals.items ≤ length letters.now) }
-{
-    let mut literals = Vec::new(alloc);
-    for place in 0..letters.len() / 3 {
-        let at = 3 * place;
-        literals.push(Literal {
-            line: 1,
-            form: Form::Pos(atom(alloc, letters[at], letters[at + 1], letters[at + 2])?),
-        })?;
-    }
-    Ok(literals)
-}
+// Searches of computed literals.
+const COMPUTED: [(&[&str], &str, u32, u32, &str); 11] = [
+    // a comparison that holds, and one that doesn't
+    (&["p12", "qABpAB<AB"], "q1A", 1, 9, "!2 03;D 03;D 03;D 03;"),
+    (&["p21", "qABpAB<AB"], "q2A", 1, 9, "D 03;D 03;D 03;D 03;"),
+    // one of a constant, and one of a variable
+    (&["pab"], "<a1", 0, 9, "D 01;D 01;D 01;D 01;"),
+    (&["pab"], "paA<A1<B1", 0, 9, "D 02;D 02;D 02;D 02;"),
+    (&["pa0"], "paA<A1<B1", 0, 9, "F03 03;F03 03;F03 03;F03 03;"),
+    // an equation that binds two variables
+    (&["pab"], "=ABpaB", 1, 9, "!b 02;D 02;D 02;D 02;"),
+    // a sum, the greatest one, and one that is too great
+    (&["pab"], "+A34", 1, 9, "!7 01;D 01;D 01;D 01;"),
+    (&["pab"], "+734", 0, 9, "! 01;D 01;D 01;D 01;"),
+    (&["pab"], "+AZ0", 1, 9, "!Z 01;D 01;D 01;D 01;"),
+    (&["pab"], "+AZ1", 1, 9, "O01 01;O01 01;O01 01;O01 01;"),
+    // one that is too great, in a negation
+    (
+        &["pAB+CAB", "qAB-pAB"],
+        "qZ1",
+        0,
+        9,
+        "O11 04;O11 04;O11 04;O11 04;",
+    ),
+];
 
-// The clause of some letters: its head, and then its body.
-fn clause(alloc: Global, letters: &[u8]) -> Result<Clause, Fail>
-    ensures clause { IfOk result (IsProgramClause (λ pred. get_or predefined_arities pred 2) 28) }
-    ensures atoms { IfOk result (λ clause. AreAtoms clause.body) }
-{
-    if letters.len() < 3 || letters.len() > 30 {
-        return Err(Fail::from("no clause"));
-    }
-    Ok(Clause {
-        head: atom(alloc, letters[0], letters[1], letters[2])?,
-        body: Literals::from_vec(literals(alloc, &letters[3..])?),
-        vars: 4,
-        line: 1,
-        kind: ClauseKind::Written,
-    })
-}
+// Searches of gathers.
+const GATHERED: [(&[&str], &str, u32, u32, &str); 13] = [
+    // the sum of three values, their number, and the greatest
+    (
+        &["pa1", "pa4", "pa2"],
+        "SABpaB",
+        1,
+        9,
+        "!7 02;D 02;D 02;D 02;",
+    ),
+    (
+        &["pa1", "pa4", "pa2"],
+        "NABpaB",
+        1,
+        9,
+        "!3 02;D 02;D 02;D 02;",
+    ),
+    (
+        &["pa1", "pa4", "pa2"],
+        "GABpaB",
+        1,
+        9,
+        "!4 02;D 02;D 02;D 02;",
+    ),
+    // the same of no values: there is no greatest
+    (&["pa1"], "SABpbB", 1, 9, "!0 02;D 02;D 02;D 02;"),
+    (&["pa1"], "NABpbB", 1, 9, "!0 02;D 02;D 02;D 02;"),
+    (&["pa1"], "GABpbB", 1, 9, "D 02;D 02;D 02;D 02;"),
+    // a result that is another number
+    (&["pa1", "pa4"], "S7BpaB", 0, 9, "D 02;D 02;D 02;D 02;"),
+    // a sum that is too great
+    (
+        &["paZ", "pa1"],
+        "SABpaB",
+        1,
+        9,
+        "O01 02;O01 02;O01 02;O01 02;",
+    ),
+    // a value that is a constant, and one that isn't bound
+    (&["pab"], "SABpaB", 1, 9, "D 02;D 02;D 02;D 02;"),
+    (&["paA"], "SABpaB", 1, 9, "F01 02;F01 02;F01 02;F01 02;"),
+    // an atom with another variable than the value's
+    (&["pa1"], "SABpCB", 1, 9, "F01 01;F01 01;F01 01;F01 01;"),
+    // a gather of what a rule with a gather gives
+    (
+        &["pa1", "pa4", "qABNBCpAC"],
+        "GABqaB",
+        1,
+        9,
+        "!2 04;D 04;D 04;D 04;",
+    ),
+    // the budget is spent in the search for the values
+    (&["pABpAB"], "SABpaB", 1, 3, "S 03;S 03;S 03;S 03;"),
+];
 
-// The clauses of some letters.
-fn clauses(alloc: Global, rows: &[&str]) -> Result<Vec<Clause>, Fail>
-    ensures clauses { IfOk result (λ clauses. AllByRecursion (IsProgramClause (λ pred. get_or predefined_arities pred 2) 28) clauses.items) }
-    ensures atoms { IfOk result (λ clauses. AllByRecursion (λ clause. AreAtoms clause.body) clauses.items) }
-    ensures few { IfOk result (λ clauses. length clauses.items ≤ length rows.now) }
-{
-    let mut clauses = Vec::new(alloc);
-    for row in rows {
-        clauses.push(clause(alloc, row.as_bytes())?)?;
-    }
-    Ok(clauses)
-}
-
-// The first variables, so many of them, as those that are asked for.
-fn asked(alloc: Global, count: u32) -> Result<Vec<Asked>, Fail>
-    requires { count ≤ 4 }
-    ensures { IfOk result (λ asked. AllByRecursion (λ one. one.var < 4) asked.items) }
-{
-    let mut asked = Vec::new(alloc);
-    for var in 0..count {
-        asked.push(Asked {
-            name: Text::of(alloc, "thing")?,
-            var,
-        })?;
-    }
-    Ok(asked)
-}
-
-// The program of some clauses and a query, which asks for its first variables.
-fn program(alloc: Global, rows: &[&str], query: &str, count: u32) -> Result<Program, Fail>
-    requires { count ≤ 4 }
-    ensures program { IfOk result IsProgram }
-{
-    if rows.len() > 30 {
-        return Err(Fail::from("too many clauses"));
-    }
-    Ok(Program {
-        clauses: Clauses::from_vec(clauses(alloc, rows)?),
-        query: Literals::from_vec(literals(alloc, query.as_bytes())?),
-        asked: AskedList::from_vec(asked(alloc, count)?),
-        vars: 4,
-        users: 8,
-        groups: Groups::from_vec(Vec::new(alloc)),
-        version: 1,
-    })
-}
-
-// The letter of a symbol; a variable's is its number.
-fn letter(sym: Sym) -> u8 {
-    match sym {
-        Sym::Name(name) => (name % 128) as u8,
-        Sym::Var(var) => b'0' + (var % 10) as u8,
-        Sym::Cons => b':',
-        _ => b'.',
-    }
-}
-
-// Notes the letters of the last answer's values behind a `!`.
-fn note_values(alloc: Global, machine: &Machine<'_>, text: &mut Vec<u8>) -> Result<(), Fail>
-    requires { machine.now.phase ≡ Told Answer }
-{
-    text.push(b'!')?;
-    for value in &machine.values(alloc)? {
-        for sym in value.as_syms() {
-            text.push(letter(*sym))?;
-        }
-    }
-    Ok(())
-}
-
-// What a search answers to four calls of `next`, each with its selections.
-fn answers(alloc: Global, program: &Program, budget: u32) -> Result<Vec<u8>, Fail>
-    requires program { IsProgram program.now }
-    requires some { 0 < budget }
-    requires most { budget ≤ 1000000 }
-{
-    let mut machine = Machine::start(alloc, program, budget)?;
-    let mut text = Vec::new(alloc);
-    for _ in 0..4 {
-        match machine.next(alloc)? {
-            Next::Answer => note_values(alloc, &machine, &mut text)?,
-            Next::Done => text.push(b'D')?,
-            Next::Spent => text.push(b'S')?,
-            _ => text.push(b'?')?,
-        }
-        text.push(b'0' + (machine.selections() % 10) as u8)?;
-    }
-    Ok(text)
-}
+// The clauses, the query, how many variables it asks for, and the nodes of the derivation of the first answer.
+const DERIVED: [(&[&str], &str, u32, &str); 8] = [
+    // a rule with two conditions
+    (
+        &["pab", "pac", "qcd", "rABpACqCB"],
+        "raA",
+        1,
+        "u042rad;u020pac;u030qcd;",
+    ),
+    // a negation of an atom without clauses that unify
+    (&["pab", "qAB-pAB"], "qac", 0, "u021qac;npac;s00;"),
+    // a negation of a negation, whose atom has a proof
+    (
+        &["pab", "qAB-pAB", "rAB-qAB"],
+        "rab",
+        0,
+        "u031rab;nqab;s01;b02;P;u010pab;",
+    ),
+    // a negation of an atom whose clause has a negation that holds and an atom that fails
+    (
+        &["pab", "qAB-pBApBA", "rAB-qAB"],
+        "rab",
+        0,
+        "u031rab;nqab;s01;b02;L;s00;s00;",
+    ),
+    // a computed literal in a proof, and one of each kind in a tree
+    (&["p12", "qABpAB<AB"], "q1A", 1, "u022q12;u010p12;c<12;"),
+    (
+        &["qAB<AB<BA", "rAB-qAB"],
+        "r12",
+        0,
+        "u021r12;nq12;s01;b01;C;x;",
+    ),
+    // a sum of three values
+    (
+        &["pa1", "pa4", "pa2"],
+        "SABpaB",
+        1,
+        "g7ASpaA;s03;b01;.;b02;.;b03;.;",
+    ),
+    // a gather in a tree whose result fits, and one whose result doesn't
+    (
+        &["pa1", "qABN1CpACS2CpAC", "rAB-qAB"],
+        "rab",
+        0,
+        "u031rab;nqab;s01;b02;G;s01;b01;.;U;s01;b01;.;",
+    ),
+];
 
 #[test]
 fn searches_answer_in_order(rt: HostRuntime) -> Result<(), Fail> {
     let alloc = rt.alloc();
-    for (rows, query, count, budget, text) in [
-        // three facts, and no more than their one selection
-        (["pab", "pac", "pad"].as_slice(), "paA", 1, 1, "!b1!c1!d1D1"),
-        // a rule, whose first condition has an answer that its second one hasn't
-        (
-            ["pab", "pac", "qcd", "rABpACqCB"].as_slice(),
-            "raA",
-            1,
-            9,
-            "!d4D4D4D4",
-        ),
-        // variables that stay unbound, and one that stands for both
-        (["pAB", "pAA"].as_slice(), "pAB", 2, 9, "!121!111D1D1"),
-        // a rule whose variables have the numbers of the query's
-        (["pbc", "qABpBA"].as_slice(), "qBA", 2, 9, "!bc2D2D2D2"),
-    ] {
+    for (rows, query, count, budget, text) in ORDERED {
         let program = program(alloc, rows, query, count)?;
         assert_eq!(rt;
             answers(alloc, &program, budget)?.as_slice(),
@@ -210,26 +256,61 @@ fn searches_answer_in_order(rt: HostRuntime) -> Result<(), Fail> {
 #[test]
 fn searches_end(rt: HostRuntime) -> Result<(), Fail> {
     let alloc = rt.alloc();
-    for (rows, query, count, budget, text) in [
-        // a rule that calls itself for ever
-        (["rABrAB"].as_slice(), "rab", 0, 3, "S3S3S3S3"),
-        // and does so often
-        (["rABrAB"].as_slice(), "rab", 0, 100_000, "S0S0S0S0"),
-        // the budget is spent behind two answers
-        (["pab", "pABpAB"].as_slice(), "paA", 1, 2, "!b1!b2S2S2"),
-        // a variable in its own list
-        (["pAL"].as_slice(), "pAA", 1, 9, "D1D1D1D1"),
-        // a list with a variable
-        (["pLa"].as_slice(), "pAB", 2, 9, "!:1.a1D1D1D1"),
-        // a query without literals, and one without clauses
-        (["pab"].as_slice(), "", 0, 1, "!0D0D0D0"),
-        (["pab"].as_slice(), "qab", 0, 1, "D1D1D1D1"),
-    ] {
+    for (rows, query, count, budget, text) in ENDED {
         let program = program(alloc, rows, query, count)?;
         assert_eq!(rt;
             answers(alloc, &program, budget)?.as_slice(),
             text.as_bytes()
         );
+    }
+    Ok(())
+}
+
+#[test]
+fn negations_hold_where_their_atoms_fail(rt: HostRuntime) -> Result<(), Fail> {
+    let alloc = rt.alloc();
+    for (rows, query, count, budget, text) in NEGATED {
+        let program = program(alloc, rows, query, count)?;
+        assert_eq!(rt;
+            answers(alloc, &program, budget)?.as_slice(),
+            text.as_bytes()
+        );
+    }
+    Ok(())
+}
+
+#[test]
+fn literals_are_computed(rt: HostRuntime) -> Result<(), Fail> {
+    let alloc = rt.alloc();
+    for (rows, query, count, budget, text) in COMPUTED {
+        let program = program(alloc, rows, query, count)?;
+        assert_eq!(rt;
+            answers(alloc, &program, budget)?.as_slice(),
+            text.as_bytes()
+        );
+    }
+    Ok(())
+}
+
+#[test]
+fn values_are_gathered(rt: HostRuntime) -> Result<(), Fail> {
+    let alloc = rt.alloc();
+    for (rows, query, count, budget, text) in GATHERED {
+        let program = program(alloc, rows, query, count)?;
+        assert_eq!(rt;
+            answers(alloc, &program, budget)?.as_slice(),
+            text.as_bytes()
+        );
+    }
+    Ok(())
+}
+
+#[test]
+fn answers_have_derivations(rt: HostRuntime) -> Result<(), Fail> {
+    let alloc = rt.alloc();
+    for (rows, query, count, text) in DERIVED {
+        let program = program(alloc, rows, query, count)?;
+        assert_eq!(rt; derivation(alloc, &program)?.as_slice(), text.as_bytes());
     }
     Ok(())
 }

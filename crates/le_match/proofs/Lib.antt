@@ -14,3 +14,5 @@ pub mod MarkedWays
 pub mod ListLemmas
 pub mod StarLemmas
 pub mod ListTerms
+pub mod QuotableNames
+pub mod ReadTerms

@@ -2,6 +2,7 @@ pub mod Counts
 pub mod Lists
 pub mod Order
 pub mod Readings
+pub mod Sayable
 pub mod Shares
 pub mod Shown
 pub mod Terms

@@ -13,6 +13,7 @@ ghost use Rattle.le_match.specs.declared.readings.Reading.{Reading};
 ghost use Rattle.le_match.specs.Lists.{tree_term};
 ghost use Rattle.le_match.specs.Terms.{term_of};
 ghost use Rattle.le_match.specs.Readings.{is_marked, ways, readings_of};
+ghost use Rattle.le_match.specs.Sayable.{TermsAreRead, AtomsAreRead};
 ghost use Rattle.le_match.specs.Order.{IsBefore, IsReadingBefore, InOrder};
 ghost use Rattle.le_match.specs.Shares.{Fits, FitsMarked, IsRead, edge};
 
@@ -57,4 +58,12 @@ pub fn one_marked_reading()
 /// does nothing.
 pub fn every_term()
     ensures { (users : List Template) (names : List (List ℕ)) (scope : ScopeState) (query : Bool) (layout : Layout) (p : Phrase) → IsPhraseOf layout p → term_of users names scope query layout (spelled p) ≡ tree_term users names scope query layout p }
+{}
+
+/// What is read can be said. The term of a phrase has constants whose names quoted texts can hold, numbers and dates that
+/// a term may have, and variables of the scope behind it; the atom of a sentence is of a template in use, with such a term
+/// for each slot. The names before are a beginning of those behind. It does nothing.
+pub fn read_can_be_said()
+    ensures terms { TermsAreRead }
+    ensures atoms { AtomsAreRead }
 {}

@@ -18,6 +18,7 @@ mod tests;
 pub use choosing::best;
 pub use laws::{
     every_reading, every_term, every_way, no_reading_without_a_word, one_marked_reading,
+    read_can_be_said,
 };
 pub use phrases::term;
 pub use readings::{BestReading, Lengths, Reading};

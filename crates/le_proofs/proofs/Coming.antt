@@ -56,7 +56,7 @@ pub prfs-under : (by : ℕ → Tree) (pairs : List Pair) → prfs (pairs_under b
 prfs-under by [] = refl
 prfs-under by (p ∷ pairs) = ap (λ ps. p.1 ∷ ps) (prfs-under by pairs)
 
-three-map : {X Y : Type 0} (f : X → Y) (xs ys zs : List X) → map f (xs ++ (ys ++ zs)) ≡ map f xs ++ (map f ys ++ map f zs)
+pub three-map : {X Y : Type 0} (f : X → Y) (xs ys zs : List X) → map f (xs ++ (ys ++ zs)) ≡ map f xs ++ (map f ys ++ map f zs)
 three-map f xs ys zs = map-append f xs (ys ++ zs) ∙ ap (λ ls. map f xs ++ ls) (map-append f ys zs)
 
 -- a goal with other terms

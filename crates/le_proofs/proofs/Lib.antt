@@ -23,6 +23,7 @@ pub mod Numbering
 pub mod Picks
 pub mod Printed
 pub mod Same
+pub mod SameLeaves
 pub mod Scopes
 pub mod Shapes
 pub mod Sound
@@ -31,3 +32,4 @@ pub mod Trees
 pub mod UnderWay
 pub mod Variants
 pub mod Walking
+pub mod WholeTrees

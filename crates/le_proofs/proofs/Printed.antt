@@ -1,5 +1,5 @@
 -- The values of an answer's certificate are its leaf's terms, with the variables numbered over these terms alone.
-use Rattle.std.proofs.Common.{◌≡◌, ℕ, suc, ◌+◌, ◌*◌, ◌<◌, ◌≤◌, ◌==◌, ◌||◌, Bool, true, false, cond, not, List, [], ◌∷◌, ◌++◌, filter, length, length-append, Some, None, refl, sym, ap, subst, ◌∙◌, true≢false, arith}
+use Rattle.std.proofs.Common.{◌≡◌, ℕ, suc, ◌+◌, ◌*◌, ◌<◌, ◌≤◌, ◌==◌, ◌||◌, Bool, true, false, cond, not, List, [], ◌∷◌, ◌++◌, filter, length, length-append, append-nil, Some, None, refl, sym, ap, subst, ◌∙◌, true≢false, arith}
 use Rattle.std.specs.Prelude.{nat_lt, ◌/◌}
 use Rattle.std.specs.List.{AllByRecursion, prefix_len}
 use Rattle.std.proofs.Math.Nat.{mul-add-div_right, div-eq_of_lt}
@@ -11,7 +11,7 @@ use Rattle.le_terms.specs.Program.{IsProgram}
 use Rattle.le_terms.specs.declared.program.Program.{Program}
 use Rattle.le_proofs.specs.Goals.{terms_under}
 use Rattle.le_proofs.specs.Proofs.{Leaf, packed}
-use Rattle.le_proofs.specs.Derivations.{Certificate, nodes_terms, numbered, numbered_over, told_apart, scoped, times, proofs_nodes, certificate_of}
+use Rattle.le_proofs.specs.Derivations.{Certificate, nodes_terms, numbered, numbered_over, told_apart, scoped, times, proofs_nodes, certificate, certificate_of}
 use Rattle.le_proofs.specs.declared.node.Node.{Node}
 use Rattle.le_proofs.specs.Lloyd.{Admits}
 use Rattle.le_proofs.specs.Search.{answers_of}
@@ -123,15 +123,20 @@ all-fixed : (count : ℕ) (vs : List ℕ) → AllByRecursion (Fixed (told_apart 
 all-fixed count [] = tt
 all-fixed count (v ∷ vs) = (comes-back count v, all-fixed count vs)
 
--- The values of an answer's certificate are the leaf's terms, their variables numbered from 1 by first occurrence.
-pub printed-values : (leaf : Leaf) → (certificate_of leaf).values ≡ canonical_of leaf.terms
-printed-values leaf =
-    let nodes : List Node = proofs_nodes (packed leaf.proofs) in
+-- Terms that are variants of others have the same canonical form.
+pub canonical-same : (to back : ℕ → Tree) (terms : List Tree) → AllByRecursion (Fixed to back) (all_occurrences terms) → canonical_of (terms_under to terms) ≡ canonical_of terms
+canonical-same to back terms fixed =
+    let same : numbered_over (terms_under to terms) [] ≡ numbered_over terms [] = numbered-over-same to back terms [] (subst (λ ts. AllByRecursion (Fixed to back) (all_occurrences ts)) (sym (append-nil terms)) fixed) in
+    sym (values-alone (terms_under to terms) []) ∙ (ap (λ (c : Certificate). c.values) same ∙ values-alone terms [])
+
+-- The values of a certificate are its terms, their variables numbered from 1 by first occurrence.
+pub certificate-values : (terms : List Tree) (parts : ℕ) (nodes : List Node) → (certificate terms parts nodes).values ≡ canonical_of terms
+certificate-values terms parts nodes =
     let count : ℕ = length nodes in
-    let told : List Tree = terms_under (told_apart count 0) leaf.terms in
-    let same : numbered_over told [] ≡ numbered_over leaf.terms [] = numbered-over-same (told_apart count 0) (as_it_was count) leaf.terms [] (all-fixed count (all_occurrences (leaf.terms ++ []))) in
-    values-alone told (scoped count 1 (times (length leaf.proofs) 0 []) nodes)
-    ∙ (sym (values-alone told []) ∙ (ap (λ (c : Certificate). c.values) same ∙ values-alone leaf.terms []))
+    values-alone (terms_under (told_apart count 0) terms) (scoped count 1 (times parts 0 []) nodes) ∙ canonical-same (told_apart count 0) (as_it_was count) terms (all-fixed count (all_occurrences terms))
+
+pub printed-values : (leaf : Leaf) → (certificate_of leaf).values ≡ canonical_of leaf.terms
+printed-values leaf = certificate-values leaf.terms (length leaf.proofs) (proofs_nodes (packed leaf.proofs))
 
 -- each answer is admitted with the derivation of its leaf and with the values that are written
 pub printed-admitted : (program : Program) (budget : ℕ) → IsProgram program → AllByRecursion (λ leaf. Admits program (certificate_of leaf).nodes (canonical_of leaf.terms)) (answers_of program budget)

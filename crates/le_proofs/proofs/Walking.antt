@@ -65,7 +65,7 @@ pub record IsWalkedEach (branches : WholeBranches) (found : List (List Tree)) (m
   pub rest : map bare walked.rest ≡ more
   pub varied : AreFound found walked.found
 
-found-join : (as_ bs cs ds : List (List Tree)) → AreFound as_ cs → AreFound bs ds → AreFound (as_ ++ bs) (cs ++ ds)
+pub found-join : (as_ bs cs ds : List (List Tree)) → AreFound as_ cs → AreFound bs ds → AreFound (as_ ++ bs) (cs ++ ds)
 found-join [] bs [] ds one other = other
 found-join [] bs (c ∷ cs) ds one other = absurd one
 found-join (a ∷ as_) bs [] ds one other = absurd one
@@ -75,7 +75,7 @@ nil-left : {X : Type 0} (xs ys : List X) → xs ++ ys ≡ [] → (xs ≡ []) × 
 nil-left [] ys is = (refl, is)
 nil-left (x ∷ xs) ys is = absurd (cc is)
 
-slice-below : {X : Type 0} (xs : List X) (i : ℕ) (x : X) → slice_get xs i ≡ Some x → i < length xs
+pub slice-below : {X : Type 0} (xs : List X) (i : ℕ) (x : X) → slice_get xs i ≡ Some x → i < length xs
 slice-below [] i x is = absurd (cc is)
 slice-below (y ∷ xs) zero x is = omega arith
 slice-below (y ∷ xs) (suc i) x is = let rest : i < length xs = slice-below xs i x is in omega arith

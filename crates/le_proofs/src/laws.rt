@@ -1,4 +1,4 @@
-ghost use Rattle.le_proofs.specs.Laws.{TreeUnfolds, SelectsLeftmost, SearchesEnd, AnswersAdmitted, DoneIsWhole, AcceptsExactly, AnswersAccepted};
+ghost use Rattle.le_proofs.specs.Laws.{TreeUnfolds, SelectsLeftmost, SearchesEnd, AnswersAdmitted, DoneIsWhole, AcceptsExactly, AnswersAccepted, AdmittedOnce, RefutationsAgree, TreesAgree, AdmittedAtLeaf, DoneHasAll};
 
 /// The search tree of a goal is that of its selected literal, with the search trees of what becomes of the
 /// goal below it. It does nothing.
@@ -39,4 +39,35 @@ pub fn accepted_exactly()
 /// The replay accepts the derivation of each answer of a search with the answer's values. It does nothing.
 pub fn answers_accepted()
     ensures { AnswersAccepted }
+{}
+
+/// A derivation is admitted with one list of values, whichever variants and most general unifiers are chosen.
+/// It does nothing.
+pub fn admitted_once()
+    ensures { AdmittedOnce }
+{}
+
+/// Refutations of a program's query have the same values and the same nodes where their nodes are the same
+/// but for their terms: the clauses that are used decide, and not the variants and most general unifiers that
+/// are chosen. It does nothing.
+pub fn refutations_agree()
+    ensures { RefutationsAgree }
+{}
+
+/// All whole trees of a program's query have the same leaves in the same order, up to the names of variables
+/// (Lloyd, Foundations of Logic Programming, chapter 3, section 15, for finitely failed trees). It does nothing.
+pub fn trees_agree()
+    ensures { TreesAgree }
+{}
+
+/// Where a program's query has a whole tree, each derivation that is admitted has the values of one of its
+/// leaves. So a query with a failed tree has no refutation. It does nothing.
+pub fn admitted_at_leaf()
+    ensures { AdmittedAtLeaf }
+{}
+
+/// Where a search is done, each derivation that is admitted has the values of one of its answers. It does
+/// nothing.
+pub fn done_has_all()
+    ensures { DoneHasAll }
 {}

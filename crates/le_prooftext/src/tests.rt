@@ -233,6 +233,6 @@ fn counts(rt: HostRuntime) {
 
 #[test]
 fn many_nodes(rt: HostRuntime) -> Result<(), Fail> {
-    assert!(rt; many_back(rt.alloc(), 100_000)?);
+    assert!(rt; many_back(rt.alloc(), 1_000_000)?);
     Ok(())
 }

@@ -1,6 +1,10 @@
 pub mod AdmittedLemmas
+pub mod CertifiedLemmas
 pub mod ChecksLemmas
 pub mod DocumentLemmas
 pub mod JobLemmas
+pub mod LimitLemmas
 pub mod ReportLemmas
 pub mod SearchLemmas
+pub mod SentenceLemmas
+pub mod UnmarkedLemmas

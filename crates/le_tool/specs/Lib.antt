@@ -1,8 +1,10 @@
 pub mod Admitted
+pub mod Certified
 pub mod Checks
 pub mod Documents
 pub mod Job
 pub mod Lines
 pub mod Readings
 pub mod Report
+pub mod Sentences
 pub mod Statuses

@@ -13,6 +13,7 @@ mod documents;
 mod jobs;
 #[cfg(test)]
 mod language_tests;
+mod laws;
 mod report;
 mod running;
 #[cfg(test)]
@@ -22,4 +23,5 @@ mod tests;
 mod writes;
 
 pub use jobs::{Command, Task, job};
+pub use laws::certified_accepted;
 pub use running::run;

@@ -4,6 +4,7 @@ ghost use Rattle.le_base.specs.Outside.{Rose, AppendsPrefix};
 ghost use Rattle.le_tool.specs.Job.{job_of};
 ghost use Rattle.le_tool.specs.Report.{usage_text, task_report, report};
 ghost use Rattle.le_tool.specs.Admitted.{search_for, search_asked, IsShown};
+ghost use Rattle.le_tool.specs.Sentences.{SentencesReadBack};
 ghost use Rattle.le_tool.specs.Checks.{checks_for, checks_asked, AreJudged};
 ghost use Rattle.le_tool.specs.Statuses.{IsStatusOf, IsStatusFor};
 
@@ -81,6 +82,10 @@ pub fn run<S: Source, K: Sink>(alloc: Global, words: &[String], input: &mut S, o
     // that search is done, they are all that there are.
     ensures answers { result ≢ 5 → result ≢ 6 → result ≢ 7 → IfSome (S.left input.old) (λ bytes.
         IfSome (search_asked (map string_bytes words.now) bytes) IsShown) }
+
+    // The values of these answers and the lines of their explanations read back, by the document's own templates, as
+    // what they say.
+    ensures sentences { IfSome (S.left input.old) (λ bytes. SentencesReadBack (map string_bytes words.now) bytes) }
 
     // Whatever the answer, it is a prefix of the report.
     ensures part { IfSome (S.left input.old) (λ bytes.

@@ -1,6 +1,5 @@
-use Rattle.std.proofs.Common.{◌≡◌, ◌+◌, ◌≤◌, ◌<◌, ◌∙◌, ◌++◌, ◌∷◌, [], true, drop, length, length-append, subst, sym, ap, arith, All, List}
+use Rattle.std.proofs.Common.{◌≡◌, ◌+◌, ◌≤◌, ◌<◌, ◌∙◌, ◌∷◌, [], true, length, length-append, subst, sym, ap, arith, All, List}
 use Rattle.std.proofs.lemmas.List.Elements.{All-append, All-cons}
-use Rattle.le_proofs.specs.declared.derivation.Derivation.{Derivation}
 use Rattle.le_proofs.specs.declared.node.Node.{Node}
 use Rattle.le_bundle.specs.Bundle.{answer_words, is_next}
 use Rattle.le_bundle.specs.Lines.{Read, lines_of}

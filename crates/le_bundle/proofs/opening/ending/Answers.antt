@@ -1,4 +1,4 @@
-use Rattle.std.proofs.Common.{◌≡◌, ◌<◌, ◌∙◌, false, length, sym, arith}
+use Rattle.std.proofs.Common.{◌<◌, ◌∙◌, length, sym, arith}
 use Rattle.std.proofs.lemmas.Bool.{eqb-false}
 use Rattle.le_bundle.specs.Lines.{lines_of}
 use Rattle.le_bundle.proofs.ReadLemmas.{ending_more}

@@ -1,4 +1,4 @@
-use Rattle.std.proofs.Common.{arith, rules}
+use Rattle.std.proofs.Common.{rules}
 use Rattle.le_bundle.proofs.ReadLemmas.{utf8_name, no_name}
 use Rattle.le_bundle.proofs.opening.name_of.Goals as goal
 

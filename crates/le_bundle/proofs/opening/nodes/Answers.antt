@@ -1,4 +1,4 @@
-use Rattle.std.proofs.Common.{◌+◌, ◌*◌, ◌≤◌, ◌∙◌, ◌++◌, ◌∷◌, [], length, length-append, ap, arith}
+use Rattle.std.proofs.Common.{◌+◌, ◌*◌, ◌≤◌, ◌∙◌, ◌∷◌, [], length, length-append, ap, arith}
 use Rattle.le_proofs.specs.declared.node.Node.{Node}
 use Rattle.le_bundle.specs.Lines.{Read, lines_of}
 use Rattle.le_bundle.proofs.ReadLemmas.{nodes_more}

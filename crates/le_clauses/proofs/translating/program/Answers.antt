@@ -5,6 +5,7 @@ use Rattle.le_clauses.specs.declared.whole.Whole.{Whole}
 use Rattle.le_clauses.specs.Pieces.{Read, declared_after, template_spans, pieces_of, program_of}
 use Rattle.le_clauses.proofs.Exits.{handed_on}
 use Rattle.le_clauses.proofs.PieceSteps.{program_after, program_with, whole_made}
+use Rattle.le_clauses.proofs.ValidWhole.{valid_if_read}
 use Rattle.le_clauses.proofs.translating.program.Goals as goal
 
 pub returns-in_err-templates-clause-exact : goal.returns-in_err-templates-clause-exact
@@ -36,4 +37,4 @@ returns c =
     let exact : program_of l c.args.doc.now ≡ Ok whole =
     program_with l c.args.doc.now sections users c.new-names.result c.new-groups.result.items (Ok f) c.as_slice-sections.ensures c.in_ok-templates.ensures.exact c.new-names.ensures c.new-groups.ensures.items c.in_ok-pieces.ensures.exact
     ∙ whole_made users f whole made in
-    record { exact = rw exact c.valid_whole.ensures.exact; sound = c.valid_whole.ensures.sound }
+    record { exact = exact; sound = valid_if_read l c.args.doc.now whole c.requires.layout c.requires.doc exact }

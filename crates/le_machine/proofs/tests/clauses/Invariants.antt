@@ -1,6 +1,0 @@
-use Rattle.le_machine.proofs.Built.{AreBuiltClauses}
-use Rattle.le_machine.proofs.tests.clauses.Given as goal
-
--- the clauses so far are built
-abbrev pub invariant-loop-row : goal.invariant-loop-row
-invariant-loop-row l = AreBuiltClauses l.clauses.items l.row-index

@@ -1,6 +1,0 @@
-use Rattle.le_machine.proofs.Built.{AreBuilt}
-use Rattle.le_machine.proofs.tests.literals.Given as goal
-
--- the literals so far are built
-abbrev pub invariant-loop-place : goal.invariant-loop-place
-invariant-loop-place l = AreBuilt l.literals.items l.place
