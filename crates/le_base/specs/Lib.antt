@@ -1,4 +1,5 @@
 pub mod Code
 pub mod Memory
 pub mod Outside
+pub mod Ranges
 pub mod Stop

@@ -3,6 +3,8 @@
 #![tactic(auto)]
 
 mod code;
+mod limits;
+mod list;
 mod memory;
 mod outside;
 mod reading;
@@ -12,8 +14,14 @@ mod tests;
 mod text;
 
 pub use code::Code;
+pub use limits::{
+    FIRST_DAY, GREATEST_NUMBER, LAST_DAY, MOST_CLAUSES, MOST_DOCUMENT_BYTES, MOST_PHRASE_WORDS,
+    MOST_SENTENCE_TOKENS, MOST_SLOTS, MOST_TEMPLATE_WORDS, MOST_TEMPLATES, MOST_TEXT_BYTES,
+    MOST_VARIABLES,
+};
+pub use list::{Copied, List};
 pub use memory::{MemSink, MemSource};
 pub use outside::{Got, Sink, Source, Took};
 pub use reading::{ReadStop, WriteFault, put, read_all};
-pub use stop::{FoldKind, Refusal, Span, Stop};
+pub use stop::{FoldKind, Refusal, Stop};
 pub use text::Text;

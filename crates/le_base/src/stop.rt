@@ -65,15 +65,6 @@ impl<T: Drop> From<AllocFailed<T>> for Stop {
     }
 }
 
-/// Tokens of a layout that stand one after another: the first of them, and the place after the last.
-#[derive(Clone, Copy, Debug, PartialEq, Eq)]
-pub struct Span {
-    /// The first token, counted from 0.
-    pub from: u32,
-    /// The place after the last token.
-    pub to: u32,
-}
-
 /// What is made of the values at all cases of a gather.
 #[derive(Clone, Copy, Debug, PartialEq, Eq)]
 pub enum FoldKind {

@@ -1,6 +1,6 @@
 use crate::{
-    Code, FoldKind, Got, MemSink, MemSource, ReadStop, Refusal, Sink, Source, Span, Stop, Text,
-    Took, WriteFault, put, read_all,
+    Code, FoldKind, Got, MemSink, MemSource, ReadStop, Refusal, Sink, Source, Stop, Text, Took,
+    WriteFault, put, read_all,
 };
 use std::alloc::{AllocError, Global};
 use std::test::Fail;
@@ -98,7 +98,6 @@ fn texts_and_refusals(rt: HostRuntime) -> Result<(), Fail> {
     assert_eq!(rt; refusal.code.name(), "NoReading");
     assert_eq!(rt; (Code::TooLong.number(), Code::BadNumber.number()), (1, 24));
     assert!(rt; matches!(Stop::from(AllocError), Stop::Memory));
-    assert_eq!(rt; Span { from: 1, to: 2 }, Span { from: 1, to: 2 });
     assert_ne!(rt; FoldKind::Sum, FoldKind::Greatest);
     Ok(())
 }

@@ -10,7 +10,7 @@ use Rattle.le_builtins.specs.Lists.{list_length, last_tail}
 use Rattle.le_builtins.specs.Sentences.{a_list, is_variable, is_empty_list}
 use Rattle.le_builtins.specs.Compute.{Saying, answered, settled}
 
--- symbols of a cell: those of its head and its tail stand behind the first
+-- symbols of a cell: those of its head and its tail stand after the first
 pub record Opened (symbols : List Sym) : Type 0 where
   pub head : Tree
   pub tail : Tree
@@ -28,7 +28,7 @@ opened-tree (cell head tail) symbols d is whole first = record { head = head; ta
 opened : (symbols : List Sym) (d : Sym) → flat (tree_of symbols) ≡ symbols → get_or symbols 0 d ≡ Cons → Opened symbols
 opened symbols d whole first = opened-tree (tree_of symbols) symbols d refl whole first
 
--- the symbols behind a head are those of its list's tail
+-- the symbols after a head are those of its list's tail
 pub record Behind (symbols next : List Sym) : Type 0 where
   pub whole : flat (tree_of next) ≡ next
   pub items : list_length (tree_of symbols) ≡ 1 + list_length (tree_of next)
@@ -53,12 +53,12 @@ behind symbols next d whole first tails =
     let less : length (flat o.tail) < length symbols = omega arith in
     behind-tail o.head o.tail symbols next o.is less (tails o.head o.tail o.all)
 
--- what stands behind the first symbol of a cell
+-- what stands after the first symbol of a cell
 pub behind-first : (symbols : List Sym) (m : ℕ) (head tail : Tree) → symbols ≡ flat (cell head tail) → length symbols ≤ m + 1 → take m (drop 1 symbols) ≡ flat head ++ flat tail
 behind-first symbols m head tail all long =
     ap (λ ss. take m (drop 1 ss)) all ∙ take_all m (flat head ++ flat tail) (omega (arith, ap length all))
 
--- what stands behind the symbols of its head
+-- what stands after the symbols of its head
 pub behind-head : (symbols : List Sym) (n m : ℕ) (head tail : Tree) → symbols ≡ flat head ++ flat tail → n ≡ length (flat head) → length symbols ≤ m + n → take m (drop n symbols) ≡ flat tail
 behind-head symbols n m head tail all skipped long =
     let rest : drop n symbols ≡ flat tail = ap (λ k. drop k symbols) skipped ∙ (ap (drop (length (flat head))) all ∙ drop-append_seam (flat head) (flat tail)) in

@@ -7,7 +7,7 @@ abbrev pub list_length : Tree → ℕ
 list_length (cell head tail) = suc (list_length tail)
 list_length term = 0
 
--- what stands behind the last item of a list: the empty list where it ends there
+-- what stands after the last item of a list: the empty list where it ends there
 abbrev pub last_tail : Tree → Tree
 last_tail (cell head tail) = last_tail tail
 last_tail term = term

@@ -1,5 +1,5 @@
 ghost use Rattle.std.specs.Prelude.{◌≡◌, ◌≢◌, [], ◌∷◌, pos};
-ghost use Rattle.le_terms.specs.Tree.{IsNumber};
+ghost use Rattle.le_base.specs.Ranges.{IsNumber};
 ghost use Rattle.le_builtins.specs.Numbers.{floor_quotient, IsFloor};
 ghost use Rattle.le_builtins.specs.Sentences.{a_number};
 ghost use Rattle.le_builtins.specs.Compute.{value_of, calculated, number_result, answered, settled, GivesLeaf};
@@ -7,10 +7,8 @@ ghost use Rattle.le_builtins.specs.Compute.{value_of, calculated, number_result,
 use crate::Calc;
 use crate::kinds::two_numbers;
 use crate::sentences::Operation;
+use le_base::GREATEST_NUMBER;
 use le_terms::{Sym, Term};
-
-/// The greatest number, 10^18. The least is its negative.
-const GREATEST: i64 = 1_000_000_000_000_000_000;
 
 /// What an operation on two numbers answers.
 pub(crate) fn calculate(operation: Operation, first: &Term, second: &Term) -> Calc
@@ -62,7 +60,7 @@ pub(crate) fn number_result(n: i64) -> Calc
     ensures answer { result ≡ settled (number_result n) }
     ensures in_range { GivesLeaf result }
 {
-    if -GREATEST <= n && n <= GREATEST {
+    if -GREATEST_NUMBER <= n && n <= GREATEST_NUMBER {
         Calc::Gives(Sym::Num(n))
     } else {
         Calc::Range

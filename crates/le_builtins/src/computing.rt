@@ -27,7 +27,7 @@ pub enum Calc {
 }
 
 /// What the predefined sentence of this predicate, which is below 18, answers for these arguments,
-/// which are as many as its template has slots. It takes no memory.
+/// which are as many as its template has slots.
 ///
 /// `Unbound` comes where an argument that must be bound isn't, whatever the others are; else `No`
 /// where one isn't of the kind that its slot names, where a comparison is false, or where a divisor is

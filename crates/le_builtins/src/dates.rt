@@ -1,5 +1,6 @@
 ghost use Rattle.std.specs.Prelude.{◌≡◌, [], ◌∷◌, IfSome, ◌-ℤ◌};
-ghost use Rattle.le_values.specs.Days.{IsDay, days_later, months_later};
+ghost use Rattle.le_base.specs.Ranges.{IsDay};
+ghost use Rattle.le_values.specs.Days.{days_later, months_later};
 ghost use Rattle.le_builtins.specs.Sentences.{a_number, a_date};
 ghost use Rattle.le_builtins.specs.Compute.{value_of, number_result, date_result, answered, settled, GivesLeaf};
 

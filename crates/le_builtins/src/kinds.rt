@@ -1,5 +1,6 @@
 ghost use Rattle.std.specs.Prelude.{◌≡◌, ◌||◌, [], ◌∷◌, false, IfOk, IfErr, IfSome, IfNone};
-ghost use Rattle.le_terms.specs.Tree.{number, date, IsNumber, IsDay};
+ghost use Rattle.le_base.specs.Ranges.{IsNumber, IsDay};
+ghost use Rattle.le_terms.specs.Tree.{number, date};
 ghost use Rattle.le_builtins.specs.Sentences.{is_variable, is_a_number, is_a_date, a_number, a_date};
 ghost use Rattle.le_builtins.specs.Compute.{Saying, truth, answered, settled, GivesLeaf};
 

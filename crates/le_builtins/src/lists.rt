@@ -21,7 +21,7 @@ pub(crate) fn length_of(list: &Term) -> Calc
     }
 }
 
-/// How many items a list has, and the symbol of what stands behind the last of them.
+/// How many items a list has, and the symbol of what stands after the last of them.
 fn list_end(list: &[Sym]) -> (usize, Sym)
     requires { flat (tree_of list.now) ≡ list.now }
     ensures items { result.0 ≡ list_length (tree_of list.now) }
@@ -36,7 +36,7 @@ fn list_end(list: &[Sym]) -> (usize, Sym)
     (items, rest[0])
 }
 
-/// The symbols of a cell's tail, which stand behind those of its head.
+/// The symbols of a cell's tail, which stand after those of its head.
 fn tail_of(list: &[Sym]) -> &[Sym]
     requires { (head : Tree) × (tail : Tree) × (list.now ≡ flat (cell head tail)) }
     ensures { (head : Tree) → (tail : Tree) → list.now ≡ flat (cell head tail) → result.now ≡ flat tail }

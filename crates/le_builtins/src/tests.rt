@@ -1,5 +1,5 @@
 ghost use Rattle.std.specs.Prelude.{IfSome};
-ghost use Rattle.le_terms.specs.Tree.{IsNumber};
+ghost use Rattle.le_base.specs.Ranges.{IsNumber};
 
 use crate::*;
 use le_terms::{Sym, Term};

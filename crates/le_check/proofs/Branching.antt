@@ -1,4 +1,4 @@
--- What a replay's branches give, one behind the other.
+-- What a replay's branches give, one after the other.
 use Rattle.std.proofs.Common.{◌≡◌, ◌≢◌, ℕ, suc, ◌+◌, ◌-◌, Bool, List, [], ◌∷◌, ◌++◌, length, map, reverse, not, Option, Some, None, if◌then◌else◌, refl, sym, ap, ap₂, subst, ◌∙◌, append-nil, append_assoc, length-append, arith}
 use Rattle.std.specs.Prelude.{Result, Ok, Err, slice_get, option_map}
 use Rattle.std.specs.List.{AllByRecursion, cons_option}
@@ -38,7 +38,7 @@ pub uncounted : (program : Program) (nodes : List Node) (frames : List Frame) (l
 uncounted program nodes frames log found order whole clauses x proofs walk (more, done, eq) =
     (and_on x more, ap (λ (r : Replayed Proven). r.tried) eq ∙ counted-on clauses x.tried x.answer more, ap (λ (r : Replayed Proven). r.answer) eq ∙ counted-answer clauses x.tried x.answer more, (more, done, refl))
 
--- an item behind others
+-- an item after others
 get-behind : {X : Type 0} (front : List X) (x : X) (xs : List X) → slice_get (front ++ x ∷ xs) (length front) ≡ Some x
 get-behind [] x xs = refl
 get-behind (y ∷ front) x xs = get-behind front x xs

@@ -12,7 +12,7 @@ pub behind-none : (n : ℕ) → behind n [] ≡ []
 behind-none zero = refl
 behind-none (suc n) = refl
 
--- parts behind others
+-- parts after others
 pub behind-more : (m n : ℕ) (nodes : List Node) → behind (m + n) nodes ≡ behind n (behind m nodes)
 behind-more zero n nodes =
     let none : 0 + n ≡ n = omega arith in

@@ -1,4 +1,4 @@
--- What a replay's parts give, one behind the other.
+-- What a replay's parts give, one after the other.
 use Rattle.std.proofs.Common.{◌≡◌, ℕ, zero, suc, ◌+◌, ◌<◌, ◌≤◌, Bool, true, false, List, [], ◌∷◌, ◌++◌, take, drop, length, reverse, get_or, ◌-◌, not, ◌==◌, Some, refl, sym, ap, ap₂, subst, ◌∙◌, append_assoc, arith}
 use Rattle.std.specs.Prelude.{Result, Ok, Err, IfOk}
 use Rattle.le_terms.specs.Tree.{Tree}
@@ -34,7 +34,7 @@ use Rattle.le_check.specs.Goals.{goal_of, placed, IsOutcome, Chooses}
 use Rattle.le_check.specs.Parts.{nodes_from}
 use Rattle.le_check.specs.Left.{ProofOn, TreeOn, past, ProofPast, ProofDone, ProofGives, ProofOnward, TreeDone, proof_below, tree_below}
 
--- what comes behind what comes behind
+-- what comes after what comes after
 then-on-on : {X Y Z : Type 0} (tried : ℕ) (answer : Result X Fault) (f : X → Replayed Y) (g : Y → Replayed Z) → and_on (then_on tried answer f) g ≡ then_on tried answer (λ x. and_on (f x) g)
 then-on-on tried (Err fault) f g = refl
 then-on-on {Y = Y} {Z = Z} tried (Ok x) f g = by (f x).tried (f x).answer
@@ -51,7 +51,7 @@ and-on-gives x f =
     let same : 0 + (f x).tried ≡ (f x).tried = omega arith in
     ap (λ n. record { tried = n; answer = (f x).answer }) same
 
--- what comes behind, by what it is for each
+-- what comes after, by what it is for each
 pub and-on-same : {X Y : Type 0} (first : Replayed X) (f g : X → Replayed Y) → ((x : X) → f x ≡ g x) → and_on first f ≡ and_on first g
 and-on-same {X = X} {Y = Y} first f g same = by first.answer
   where
@@ -96,7 +96,7 @@ drop-next (suc p) (x ∷ xs) = drop-next p xs
 pub put-in : (p : ℕ) (xs new : List ℕ) → (take p xs ++ new) ++ drop 1 (drop p xs) ≡ take p xs ++ (new ++ drop (suc p) xs)
 put-in p xs new = append_assoc (take p xs) new (drop 1 (drop p xs)) ∙ ap (λ r. take p xs ++ (new ++ r)) (drop-next p xs)
 
--- a proof goes on behind a step
+-- a proof goes on after a step
 pub goes-onward : (program : Program) (nodes : List Node) (frames : List Frame) (order : List ℕ) (whole : Replayed Proven) (fuel : ℕ) (path longer : List PathStep) (kept : PathStep) (step : Step) (goal next : Goal) (places others : List (List Node))
     → longer ≡ path ++ kept ∷ [] → IsStep kept step → next ≡ goal → others ≡ places
     → ProofOnward program nodes (ProofDone program nodes frames) path step order (proof_below program nodes fuel goal places) whole
@@ -139,7 +139,7 @@ before-place (l ∷ lits) (suc place) h = let h' : place < length lits = omega (
 pub proof-faulty : (program : Program) (nodes : List Node) (frames : List Frame) (path : List PathStep) (order : List ℕ) (number why : ℕ) (whole : Replayed Proven) → ProofGives program nodes frames path order (faulty number why) whole → whole ≡ faulty number why
 proof-faulty program nodes frames path order number why whole (steps, are, (more, done, eq)) = eq
 
--- a proof behind a step and its number
+-- a proof after a step and its number
 pub onward-on : (program : Program) (nodes : List Node) (frames : List Frame) (path : List PathStep) (order : List ℕ) (whole : Replayed Proven) (fuel number : ℕ) (step : Step) (before : List ℕ) (goal : Goal) (places : List (List Node))
     → ProofGives program nodes frames path order (onward program (length nodes) (proofs_within program (length nodes) fuel) (tree_within program (length nodes) fuel) number step before goal places) whole
     → ProofOnward program nodes (ProofDone program nodes frames) path step (order ++ number ∷ before) (proof_below program nodes fuel goal places) whole

@@ -32,11 +32,11 @@ use Rattle.le_check.specs.declared.levels.Turn.TheVariants.{Prove, Walk as WalkO
 use Rattle.le_check.specs.declared.levels.Opening.{Opening}
 use Rattle.le_check.specs.declared.levels.Opening.TheVariants.{Goes, Opens}
 
--- what the whole replay comes to, where a proof gives this behind such steps, and behind the numbers so far
+-- what the whole replay comes to, where a proof gives this after such steps, and after the numbers so far
 abbrev pub ProofOn : (Leaf → List ℕ → Replayed Proven → Type 0) → List Step → List ℕ → Replayed Proven → Replayed Proven → Type 0
 ProofOn Done steps order proof whole = (more : Proven → Replayed Proven) × ((proven : Proven) → Done (leaf_along steps proven.leaf) (order ++ proven.order) (more proven)) × (whole ≡ and_on proof more)
 
--- and where a tree gives this behind the nodes, the values and the numbers so far
+-- and where a tree gives this after the nodes, the values and the numbers so far
 abbrev pub TreeOn : (List Node → List Tree → List ℕ → List Node → Replayed Proven → Type 0) → List Node → List Tree → List ℕ → Replayed Walked → Replayed Proven → Type 0
 TreeOn Done log found order tree whole =
     (more : Walked → Replayed Proven) × ((walked : Walked) → Done (log ++ tree_nodes walked.tree) (found ++ values_at walked.found) (order ++ walked.order) walked.rest (more walked)) × (whole ≡ and_on tree more)
@@ -86,7 +86,7 @@ module _ (program : Program) (nodes : List Node) where
       let all : List Child = children goal picked atom 1 program.clauses in
       unless (not (count == length all)) number 6 (split_of program (length nodes) (proofs_within program (length nodes) fuel) (tree_within program (length nodes) fuel) (branches_below fuel failed goal atom all below))
 
-  -- the rest of a proof behind a step gives this
+  -- the rest of a proof after a step gives this
   abbrev pub ProofOnward : (Leaf → List ℕ → Replayed Proven → Type 0) → List PathStep → Step → List ℕ → Replayed Proven → Replayed Proven → Type 0
   ProofOnward Done path step order proof whole = (steps : List Step) × AreSteps (reverse path) steps × ProofOn Done (step ∷ steps) order proof whole
 
@@ -106,7 +106,7 @@ module _ (program : Program) (nodes : List Node) where
       (λ unifier. TreeOn Done log found order (tree_below walk.fuel walk.failed (rest_by (goal_of walk.goal) (placed walk.goal.literals.items place literal) unifier) rest) whole) whole
 
   abbrev mutual
-    -- what the whole replay comes to once the innermost tree is done, with these nodes, values and numbers, and with these nodes behind it
+    -- what the whole replay comes to once the innermost tree is done, with these nodes, values and numbers, and with these nodes after it
     pub TreeDone : List Frame → List Node → List Tree → List ℕ → List Node → Replayed Proven → Type 0
     TreeDone [] log found order rest whole = ⊥
     TreeDone (Absent f ∷ frames) log found order rest whole =

@@ -5,7 +5,7 @@ ghost use Rattle.le_proofs.specs.Search.{by_solution, computing, by_fold};
 ghost use Rattle.le_check.specs.Goals.{IsOutcome, CanCompute};
 
 use crate::goal::Outcome;
-use le_base::FoldKind;
+use le_base::{Copied, FoldKind, GREATEST_NUMBER};
 use le_builtins::{Calc, compute};
 use le_gather::{FoldAnswer, fold};
 use le_subst::{Steps, Subst, solve_counted};
@@ -15,9 +15,6 @@ use std::sync::ledger::Ledger;
 
 // How many values a gather can have: more don't fit in memory.
 const MOST_VALUES: usize = 1_000_000_000_000_000_000;
-
-// The greatest number, 10^18. The least is its negative.
-const GREATEST: i64 = 1_000_000_000_000_000_000;
 
 // What becomes of a computed literal with this atom, by at most one step.
 pub(crate) fn computed<L: Ledger>(
@@ -78,7 +75,7 @@ pub(crate) fn folded<L: Ledger>(
     match fold(kind, values) {
         FoldAnswer::Value(number) => {
             // It is in range, since the values are and `fold` answers `Range` for other sums.
-            if number < -GREATEST || number > GREATEST {
+            if number < -GREATEST_NUMBER || number > GREATEST_NUMBER {
                 return Err(AllocError);
             }
             let value = Term::leaf(alloc, Sym::Num(number))?;

@@ -48,7 +48,7 @@ pub(crate) struct Grown {
 // A negation in a proof, whose atom's tree is being walked.
 #[derive(Drop)]
 pub(crate) struct AbsentFrame {
-    // The proof behind it.
+    // The proof after it.
     pub(crate) proof: Proof,
     // The place of its literal.
     pub(crate) place: usize,
@@ -59,7 +59,7 @@ pub(crate) struct AbsentFrame {
 // A gather in a proof, whose atom's tree is being walked.
 #[derive(Drop)]
 pub(crate) struct GatherFrame {
-    // The proof, with the literal, and with the places behind it.
+    // The proof, with the literal, and with the places after it.
     pub(crate) proof: Proof,
     // The place of its literal.
     pub(crate) place: usize,
@@ -91,7 +91,7 @@ pub(crate) struct SplitFrame {
 // A negation in a tree, whose atom's tree is being walked.
 #[derive(Drop)]
 pub(crate) struct LackingFrame {
-    // The tree behind it.
+    // The tree after it.
     pub(crate) walk: Walk,
     // The values that were found before it.
     pub(crate) found: Vec<Term>,
@@ -109,7 +109,7 @@ pub(crate) struct PresentFrame {
 // A gather in a tree, whose atom's tree is being walked.
 #[derive(Drop)]
 pub(crate) struct GatheredFrame {
-    // The tree behind it, and the goal with the literal.
+    // The tree after it, and the goal with the literal.
     pub(crate) walk: Walk,
     // The place of its literal.
     pub(crate) place: usize,

@@ -3,7 +3,7 @@ ghost use Rattle.le_proofs.specs.Replay.{met, kind_of};
 ghost use Rattle.le_check.specs.Meetings.{meeting_of, kind_by};
 ghost use Rattle.le_terms.specs.declared.program.Form.TheVariants.{Pos, Neg, Calc, Gather};
 
-use le_base::FoldKind;
+use le_base::{Copied, FoldKind};
 use le_proofs::Node;
 use le_terms::{Atom, Form, Term};
 use std::alloc::{AllocError, Global};

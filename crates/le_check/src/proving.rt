@@ -24,7 +24,7 @@ use crate::meeting::{Meeting, meet};
 use crate::parts::beginnings;
 use crate::resolving::{resolvent, rest, rest_under, sub_goal};
 use crate::selecting::select;
-use le_base::FoldKind;
+use le_base::{Copied, FoldKind};
 use le_derivations::PathStep;
 use le_literals::{is_covered, is_ground_atom};
 use le_proofs::{Node, Nodes};

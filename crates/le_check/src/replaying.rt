@@ -18,6 +18,7 @@ use crate::parts::beginnings;
 use crate::proving::prove_next;
 use crate::returning::{after_proof, after_tree};
 use crate::walking::walk_next;
+use le_base::Copied;
 use le_derivations::PathStep;
 use le_proofs::Node;
 use le_subst::Steps;

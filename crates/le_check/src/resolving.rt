@@ -8,6 +8,7 @@ ghost use Rattle.le_check.specs.Resolvents.{goal_with};
 ghost use Rattle.le_check.specs.Goals.{goal_of, placed};
 
 use crate::goal::Goal;
+use le_base::Copied;
 use le_literals::{Change, changed_terms, head_equations, push_changed};
 use le_subst::{Steps, Subst, solve_counted};
 use le_terms::{Atom, Clause, Form, Literal, Program, Term};

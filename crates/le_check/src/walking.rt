@@ -25,7 +25,7 @@ use crate::meeting::{Kind, claim};
 use crate::proving::{MOST_VARIABLES, nothing_grown, value_asked};
 use crate::resolving::{rest, rest_under, sub_goal, unifying_clauses};
 use crate::selecting::select;
-use le_base::FoldKind;
+use le_base::{Copied, FoldKind};
 use le_literals::{is_covered, is_ground_atom};
 use le_proofs::Node;
 use le_subst::{Steps, Subst};

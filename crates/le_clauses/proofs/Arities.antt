@@ -139,7 +139,7 @@ atom_arity users arity count atom fit template group = ⊎_elim
     (λ (high : 20 + length users ≤ atom.pred). group high)
     (cases_lt atom.pred (20 + length users))
 
--- the numbers of arguments that a list has behind others
+-- the numbers of arguments that a list has after others
 pub arities_behind : (front ns : List ℕ) → HaveArities (λ pred. get_or (front ++ ns) pred 0) (length front) ns
 arities_behind front [] = tt
 arities_behind front (n ∷ ns) =

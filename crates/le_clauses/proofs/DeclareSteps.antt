@@ -1,7 +1,7 @@
 -- One step of the walk over a document's templates.
 use Rattle.std.proofs.Common.{◌≡◌, ℕ, ◌+◌, ◌<◌, ◌≤◌, Bool, true, false, cond, Result, Ok, Err, List, [], ◌∷◌, ◌++◌, length, get_or, drop, sym, ap, ◌∙◌}
 use Rattle.std.proofs.lemmas.List.{drop_more, drop_all}
-use Rattle.le_base.specs.declared.stop.Span.{Span}
+use Rattle.le_layout.specs.declared.span.Span.{Span}
 use Rattle.le_base.specs.declared.stop.Refusal.{Refusal}
 use Rattle.le_layout.specs.declared.layout.Layout.{Layout}
 use Rattle.le_docs.specs.declared.doc.Section.{Section}
@@ -15,7 +15,7 @@ abbrev then_declared : Layout → List Span → List Template → Result Templat
 then_declared layout rest users (Ok t) = declared_after layout (users ++ t ∷ []) rest
 then_declared layout rest users (Err r) = Err r
 
--- ---- the spans of one section before those of the sections behind it
+-- ---- the spans of one section before those of the sections after it
 
 first_ok : (layout : Layout) (xs ys : List Span) (users all : List Template) (d : Result Template Refusal) → ((t : Template) → declared_after layout (users ++ t ∷ []) xs ≡ Ok all → declared_after layout (users ++ t ∷ []) (xs ++ ys) ≡ declared_after layout all ys) → then_declared layout xs users d ≡ Ok all → then_declared layout (xs ++ ys) users d ≡ declared_after layout all ys
 first_ok layout xs ys users all (Ok t) step e = step t e

@@ -1,7 +1,7 @@
 -- The bodies of what conditions are translated to have no more literals than the conditions have parts, and these are few.
 use Rattle.std.proofs.Common.{◌≡◌, ℕ, zero, suc, ◌+◌, ◌*◌, ◌-◌, ◌≤◌, Bool, true, false, cond, nat_lt, Option, Some, None, Result, Ok, Err, IfOk, List, [], ◌∷◌, ◌++◌, map, length, refl, ap, arith, length-append}
 use Rattle.std.specs.List.{AllByRecursion}
-use Rattle.le_base.specs.declared.stop.Span.{Span}
+use Rattle.le_layout.specs.declared.span.Span.{Span}
 use Rattle.le_base.specs.declared.stop.Refusal.{Refusal}
 use Rattle.le_layout.specs.declared.layout.Layout.{Layout}
 use Rattle.le_templates.specs.declared.part.Template.{Template}
@@ -18,7 +18,7 @@ use Rattle.le_conds.specs.declared.cond.Conds.{Conds}
 use Rattle.le_conds.specs.declared.item.Item.{Item}
 use Rattle.le_conds.specs.declared.item.Lead.{Lead}
 use Rattle.le_conds.specs.declared.item.Lead.TheVariants.{Plain}
-use Rattle.le_conds.specs.declared.faults.Fault.{Fault}
+use Rattle.le_layout.specs.declared.fault.Fault.{Fault}
 use Rattle.le_conds.specs.Items.{span, opened, lead_at, open_after, ended_before, items_from, items_of}
 use Rattle.le_conds.specs.Entries.{opens_of, unmarked, further_entries, entries_of}
 use Rattle.le_conds.specs.Openers.{indent}

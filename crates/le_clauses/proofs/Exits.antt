@@ -6,7 +6,7 @@ use Rattle.le_base.specs.declared.stop.Refusal.{Refusal}
 use Rattle.le_base.specs.declared.stop.Stop.{Stop}
 use Rattle.le_base.specs.declared.stop.Stop.TheVariants.{Refused, Memory}
 
--- a stop is the refusal that a definition gives, or want of memory
+-- a stop is the refusal that a definition gives, or out of memory
 abbrev pub Halts : {Y : Type 0} → Stop → Result Y Refusal → Type 0
 Halts (Refused e) given = given ≡ Err e
 Halts Memory given = Unit {0}

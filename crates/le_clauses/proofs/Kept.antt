@@ -86,7 +86,7 @@ negative values set base from to vars line atom cs p k = record {
   truth = λ env clean by. and_true (not (meant values env cs (atom_under by atom))) ∙ ap not (k.truth env clean by);
 }
 
--- a set stays clean behind the clauses of other groups
+-- a set stays clean after the clauses of other groups
 clean_behind : (values : List Tree) (set : Atom → Bool) (base from middle to : ℕ) → base ≤ from → from ≤ middle → middle ≤ to → (cs : List Clause) → HeadsIn middle to cs → (env : Atom → Bool) → IsClean set base from to env → IsClean set base from middle (meant values env cs)
 clean_behind values set base from middle to low order high cs heads env clean = record {
   templates = λ atom is_low. meant_outside values env middle to cs atom heads (inl (omega (arith, is_low, low, order))) ∙ clean.templates atom is_low;
@@ -120,7 +120,7 @@ within_either xs ys ls ms h k v e =
     in_either xs ys ls ms v h k (or_cases (has (body_vars ls) v) (has (body_vars ms) v)
     (sym (has-append (body_vars ls) (body_vars ms) v) ∙ ap (λ vs. has vs v) (sym (body_vars-append ls ms)) ∙ e))
 
--- the literals of two conditions together, where the groups of the second are numbered behind those of the first
+-- the literals of two conditions together, where the groups of the second are numbered after those of the first
 pub both : (values : List Tree) (set : Atom → Bool) (base from middle to : ℕ) → base ≤ from → from ≤ middle → middle ≤ to → (xs ys : List ℕ) (ls ms : List Literal) (cs ds : List Clause) (p q : (ℕ → Tree) → Bool)
     → IsKeptBody values set base from middle xs ls cs p → IsKeptBody values set base middle to ys ms ds q → IsKeptBody values set base from to (xs ++ ys) (ls ++ ms) (cs ++ ds) (λ by. p by && q by)
 both values set base from middle to low order high xs ys ls ms cs ds p q k l = record {

@@ -26,3 +26,7 @@ pub mod Sets
 pub mod TruthKept
 pub mod WalkExamples
 pub mod WalkLaws
+pub mod QueryLiterals
+pub mod Accepted
+pub mod Documents
+pub mod DocumentExamples

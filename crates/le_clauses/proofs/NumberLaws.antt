@@ -32,7 +32,7 @@ apart_numbers us v w in_v in_w = same_tests (number_in us v == number_in us w) (
     (λ h. eq-eqb (number_in us v) (number_in us w) (ap (number_in us) (eqb-true v w h)))
 
 -- numbers that stand among others
-abbrev Among : List ℕ → List ℕ → Type 0
+abbrev pub Among : List ℕ → List ℕ → Type 0
 Among us vs = (v : ℕ) → has vs v ≡ true → has us v ≡ true
 
 -- a number is among some exactly where its place is among theirs
@@ -92,7 +92,7 @@ body_renamed n (l ∷ ls) =
     ∙ sym (map-append n (all_occurrences (form_terms l.form)) (body_vars ls))
     ∙ ap (map n) (sym (all_occurrences-append (form_terms l.form) (literals_terms ls)))
 
--- values behind other numbers
+-- values after other numbers
 replaced_renamed : (n : ℕ → ℕ) (a : ℕ → Tree) (tree : Tree) → replaced a (replaced (renamed n) tree) ≡ replaced (λ v. a (n v)) tree
 replaced_renamed n a (constant k) = refl
 replaced_renamed n a (number z) = refl
@@ -220,13 +220,13 @@ meant_numbered values set from to (c ∷ cs) heads =
     ap (λ (other : Atom → Bool). λ (atom : Atom). ((c.head.pred == atom.pred) && gives values other (numbered c) atom.args) || other atom) (meant_numbered values set from to cs heads.1)
     ∙ same_functions (λ (atom : Atom). ap (λ b. ((c.head.pred == atom.pred) && b) || meant values set cs atom) (gives_numbered values (meant values set cs) c heads.0.2.0 heads.0.2.1 atom.args))
 
--- what stands at the places of a clause's variables is as at the variables
-pub at_places : (c : Clause) (by : ℕ → Tree) (v : ℕ) → has (body_vars c.body) v ≡ true → by (at_place (clause_vars c) (number_in (clause_vars c) v)) ≡ by v
-at_places c by v h = ap by (at_number (clause_vars c) v (in_clause c v ∙ or_right (has (all_occurrences c.head.args) v) (has (body_vars c.body) v) h))
+-- Literals whose variables are numbered by their places among some are true where they were.
+pub literals_numbered : (set : Atom → Bool) (us : List ℕ) (ls : List Literal) (by : ℕ → Tree) → Among us (body_vars ls) → is_body_true set (λ k. by (at_place us k)) (literals_under (λ v. variable (number_in us v)) ls) ≡ is_body_true set by ls
+literals_numbered set us ls by among =
+    body_values set (number_in us) (λ k. by (at_place us k)) ls
+    ∙ body_on set ls (λ v. by (at_place us (number_in us v))) by (λ v h. ap by (at_number us v (among v h)))
 
 -- The body of a clause numbered anew is true where its body was.
 pub body_numbered : (set : Atom → Bool) (c : Clause) (by : ℕ → Tree) → is_body_true set (λ k. by (at_place (clause_vars c) k)) (numbered c).body ≡ is_body_true set by c.body
 unfolding clause_vars
-body_numbered set c by =
-    body_values set (number_in (clause_vars c)) (λ k. by (at_place (clause_vars c) k)) c.body
-    ∙ body_on set c.body (λ v. by (at_place (clause_vars c) (number_in (clause_vars c) v))) by (λ v h. at_places c by v h)
+body_numbered set c by = literals_numbered set (clause_vars c) c.body by (λ v h. in_clause c v ∙ or_right (has (all_occurrences c.head.args) v) (has (body_vars c.body) v) h)

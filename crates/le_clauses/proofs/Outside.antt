@@ -1,4 +1,4 @@
--- A variable of a group occurs more often in its rule exactly where it occurs before the group or behind it.
+-- A variable of a group occurs more often in its rule exactly where it occurs before the group or after it.
 use Rattle.std.proofs.Common.{◌≡◌, ◌+◌, ℕ, suc, ◌==◌, ◌||◌, Bool, true, false, cond, ltb, List, [], ◌∷◌, ◌++◌, sym, ap, ◌∙◌, arith}
 use Rattle.std.proofs.lemmas.Bool.{ltb-true, lt-ltb, le-ltb}
 use Rattle.le_clauses.specs.Conditions.{Condition, occurring}
@@ -22,7 +22,7 @@ has_count : (xs : List ℕ) (v : ℕ) → has xs v ≡ ltb 0 (count_in xs v)
 has_count [] v = sym (le-ltb 0 0 (omega arith))
 has_count (x ∷ xs) v = has_step (x == v) (has xs v) (count_in xs v) (has_count xs v)
 
--- A variable of a group occurs more often in its rule exactly where it also stands before the group or behind it.
+-- A variable of a group occurs more often in its rule exactly where it also stands before the group or after it.
 pub outside_law : (before after : List ℕ) (c : Condition) (v : ℕ) → is_outside (before ++ (occurring c ++ after)) c v ≡ (has before v || has after v)
 outside_law before after c v =
     let inner = count_in (occurring c) v in

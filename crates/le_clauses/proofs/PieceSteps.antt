@@ -12,12 +12,12 @@ use Rattle.le_clauses.specs.declared.whole.Piece.{Piece}
 use Rattle.le_clauses.specs.declared.whole.Whole.{Whole}
 use Rattle.le_clauses.specs.Pieces.{Read, declared_after, template_spans, piece_of, onto_pieces, is_read, pieces_of, whole_by, program_of}
 
--- clauses that were read, before those of the sentences behind them
+-- clauses that were read, before those of the sentences after them
 abbrev pub after_clauses : List Clause → Result (Read (List Clause)) Refusal → Result (Read (List Clause)) Refusal
 after_clauses done (Ok f) = Ok (record { value = done ++ f.value; names = f.names; count = f.count; groups = f.groups })
 after_clauses done (Err r) = Err r
 
--- pieces that were read, before those of the sections behind them
+-- pieces that were read, before those of the sections after them
 abbrev pub after_pieces : List Piece → Result (Read (List Piece)) Refusal → Result (Read (List Piece)) Refusal
 after_pieces done (Ok f) = Ok (record { value = done ++ f.value; names = f.names; count = f.count; groups = f.groups })
 after_pieces done (Err r) = Err r

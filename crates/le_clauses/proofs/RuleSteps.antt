@@ -2,7 +2,7 @@
 use Rattle.std.proofs.Common.{◌≡◌, ℕ, ◌+◌, ◌<◌, ◌≤◌, Bool, true, false, cond, Result, Ok, Err, List, [], ◌∷◌, ◌++◌, length, get_or, drop, append_assoc, refl, sym, ap, ◌∙◌}
 use Rattle.std.proofs.lemmas.Bool.{lt-ltb, le-ltb}
 use Rattle.le_base.specs.declared.code.Code.TheVariants.{PredefinedHead}
-use Rattle.le_base.specs.declared.stop.Span.{Span}
+use Rattle.le_layout.specs.declared.span.Span.{Span}
 use Rattle.le_base.specs.declared.stop.Refusal.{Refusal}
 use Rattle.le_layout.specs.declared.layout.Layout.{Layout}
 use Rattle.le_layout.specs.declared.token.Token.{Token}
@@ -17,7 +17,7 @@ use Rattle.le_terms.specs.Tree.{Tree}
 use Rattle.le_clauses.specs.Rules.{new_scope, is_predefined, goes_before, not_predefined, head_of}
 use Rattle.le_clauses.specs.declared.part.Part.{Part}
 
--- parts that were read, before those of the conditions behind them
+-- parts that were read, before those of the conditions after them
 abbrev pub after_parts : List Part → Result (Found (List Part)) Refusal → Result (Found (List Part)) Refusal
 after_parts done (Ok f) = Ok (record { value = done ++ f.value; names = f.names; scope = f.scope })
 after_parts done (Err r) = Err r

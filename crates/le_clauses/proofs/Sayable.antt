@@ -3,7 +3,7 @@ use Rattle.std.proofs.Common.{◌≡◌, ⊎_elim, ℕ, ◌+◌, ◌<◌, ◌≤
 use Rattle.std.specs.List.{AllByRecursion, find}
 use Rattle.std.proofs.lemmas.Bool.{cases_lt}
 use Rattle.le_base.specs.declared.code.Code.TheVariants.{TooMany, PredefinedHead, NoScenario}
-use Rattle.le_base.specs.declared.stop.Span.{Span}
+use Rattle.le_layout.specs.declared.span.Span.{Span}
 use Rattle.le_base.specs.declared.stop.Refusal.{Refusal}
 use Rattle.le_base.specs.Stop.{refusal_at}
 use Rattle.le_layout.specs.declared.token.Token.{Token}
@@ -24,7 +24,6 @@ use Rattle.le_terms.specs.declared.program.Form.TheVariants.{Pos, Neg, Calc, Gat
 use Rattle.le_terms.specs.declared.program.Literal.{Literal}
 use Rattle.le_terms.specs.declared.program.Clause.{Clause}
 use Rattle.le_terms.specs.declared.program.GroupKind.{GroupKind}
-use Rattle.le_terms.specs.declared.program.Program.{Program}
 use Rattle.le_terms.proofs.Few.{length-all_variables-le}
 use Rattle.le_scope.specs.Scopes.{ScopeState, Ascend}
 use Rattle.le_scope.proofs.AskedLemmas.{ascend_within}
@@ -44,6 +43,7 @@ use Rattle.le_clauses.specs.Rules.{new_scope, is_predefined, goes_before, head_o
 use Rattle.le_clauses.specs.Pieces.{Read, next_pred, within_limit, rule_clauses, rule_read, clauses_of_parts, clauses_of_rule, onto_clauses, clauses_of, query_draft, query_vars, query_by, query_read, query_of, clauses_piece, piece_of_query, piece_of, onto_pieces, is_read, pieces_of, users_of, whole_by, program_of}
 use Rattle.le_clauses.specs.Selection.{is_named, knowledge, prelude, program_over, clauses_under, selected}
 use Rattle.le_clauses.specs.Saying.{ProgramsCanBeSaid}
+use Rattle.le_clauses.specs.Documents.{IsPieceToSay}
 use Rattle.le_clauses.proofs.RuleSteps.{head_low, head_high, head_err}
 use Rattle.le_clauses.proofs.SayableTerms.{all_both, all_weaker, terms_both, terms_more, grows_none, grows_then, firsts_few, terms_numbered, slots_numbered}
 use Rattle.le_clauses.proofs.SayableParts.{AreReady, IsAtomFound, ArePartsFound, sentence_more, atom_found, parts_found}
@@ -100,11 +100,6 @@ module _ (users : List Template) (names after : List (List ℕ)) (grows : Grows 
 
   literal_more : (l : Literal) → IsLiteralToSay users names l → IsLiteralToSay users after l
   literal_more l h = record { template = h.template; terms = terms_more names after grows (form_terms l.form) h.terms }
-
--- the clauses and the query of a piece can be said
-pub record IsPieceToSay (users : List Template) (names : List (List ℕ)) (piece : Piece) : Type 0 where
-  pub clauses : AllByRecursion (IsClauseToSay users names) piece.clauses
-  pub query : AllByRecursion (IsLiteralToSay users names) piece.query
 
 piece_more : (users : List Template) (names after : List (List ℕ)) → Grows names after → (piece : Piece) → IsPieceToSay users names piece → IsPieceToSay users after piece
 piece_more users names after grows piece h = record {

@@ -174,7 +174,7 @@ meant_outside values set from to (c ∷ cs) atom heads out =
     differs (inl low) same = omega (arith, heads.0.0, low, same)
     differs (inr high) same = omega (arith, heads.0.1, high, same)
 
--- what clauses mean behind others
+-- what clauses mean after others
 pub meant-append : (values : List Tree) (set : Atom → Bool) (xs ys : List Clause) → meant values set (xs ++ ys) ≡ meant values (meant values set ys) xs
 meant-append values set [] ys = refl
 meant-append values set (c ∷ cs) ys = ap (λ (other : Atom → Bool). λ (atom : Atom). ((c.head.pred == atom.pred) && gives values other c atom.args) || other atom) (meant-append values set cs ys)

@@ -1,9 +1,10 @@
 -- The literals that conditions are translated to are true exactly where the conditions are.
 use Rattle.std.proofs.Common.{◌≡◌, ◌≤◌, ◌<◌, ℕ, ◌+◌, ◌==◌, ◌&&◌, ◌||◌, ◌⊎◌, inl, inr, Bool, true, false, not, cond, List, [], ◌∷◌, ◌++◌, map, length, refl, sym, ap, ◌∙◌, subst, arith, length-append}
 use Rattle.std.specs.List.{list_all}
-use Rattle.std.proofs.lemmas.Bool.{or_cases, eqb-true, ltb-true, lt-ltb, le-ltb, true≢false, and_parts}
+use Rattle.std.proofs.lemmas.Bool.{or_cases, or_left, eqb-true, ltb-true, lt-ltb, le-ltb, true≢false, and_parts}
 use Rattle.le_terms.specs.Tree.{Tree}
 use Rattle.le_terms.specs.Variables.{all_occurrences}
+use Rattle.le_terms.specs.Program.{literals_terms}
 use Rattle.le_terms.specs.declared.program.Atom.{Atom}
 use Rattle.le_terms.specs.declared.program.Form.TheVariants.{Pos, Neg, Calc}
 use Rattle.le_terms.specs.declared.program.Literal.{Literal}
@@ -15,8 +16,12 @@ use Rattle.le_clauses.specs.declared.draft.Draft.{Draft}
 use Rattle.le_clauses.specs.declared.draft.Body.{Body}
 use Rattle.le_clauses.specs.Conditions.{Condition, Conditions, sentence, all, some, negation, for_all, gather, none, more, line_of, line_of_first, occurring, all_occurring}
 use Rattle.le_clauses.specs.Groups.{has, shared, own, group_atom, is_computed, is_atom_alone, body, literal, literals_of, branch_clause, group_clauses, Group, group_by, sentence_form, drafted, members_drafted, branches_drafted, numbered, is_outside, rule_vars, rule_draft, written_clause}
-use Rattle.le_clauses.specs.Truth.{for_some, for_each, is_true, are_true, is_one_true, is_body_true, meant, of_templates, by_number, IsPlain, ArePlain}
-use Rattle.le_clauses.proofs.NumberLaws.{clause_vars, meant_numbered, body_numbered}
+use Rattle.le_clauses.specs.Truth.{for_some, for_each, is_true, are_true, is_one_true, is_body_true, meant, of_templates, by_place, by_number, IsPlain, ArePlain}
+use Rattle.le_docs.specs.declared.doc.Section.{Section}
+use Rattle.le_scope.specs.Scopes.{ScopeState}
+use Rattle.le_clauses.specs.Pieces.{query_draft, query_vars, query_by}
+use Rattle.le_clauses.proofs.Sets.{has-firsts, has-append}
+use Rattle.le_clauses.proofs.NumberLaws.{clause_vars, meant_numbered, literals_numbered, body_numbered}
 use Rattle.le_clauses.proofs.ForSome.{In, for_some_twice, for_some_moved, for_each_not, same_functions}
 use Rattle.le_clauses.proofs.GroupLemmas.{has-own}
 use Rattle.le_clauses.proofs.Kept.{IsClean, IsKeptBody, AreKept, IsKeptAtom, body_alike, atom_alike, as_bodies, positive, negative, both, either, group}
@@ -259,3 +264,16 @@ rule_kept values x inside set base c plain pred low line head by =
     ap (λ (s : Atom → Bool). is_body_true s (by_number clause by) (numbered clause).body) (meant_numbered values (of_templates base set) pred (pred + length d.kinds) d.clauses k.heads)
     ∙ body_numbered (meant values (of_templates base set) d.clauses) clause by
     ∙ truth_kept values x inside set base c plain pred low (rule_vars (all_occurrences head.args) c) by
+
+-- The literals of a query, their variables numbered anew, are true exactly where its conditions are.
+pub query_kept : (values : List Tree) (x : Tree) → In x values → (set : Atom → Bool) (base : ℕ) (c : Condition) → IsPlain base c → (pred : ℕ) → base ≤ pred → (s : Section) (scope : ScopeState) (by : ℕ → Tree)
+    → is_body_true (meant values (of_templates base set) (query_by s (query_draft pred scope.asked c) scope).clauses) (by_place (query_vars (query_draft pred scope.asked c) scope.asked) by) (query_by s (query_draft pred scope.asked c) scope).query ≡ is_true values set (rule_vars scope.asked c) c by
+query_kept values x inside set base c plain pred low s scope by =
+    let d = query_draft pred scope.asked c in
+    let vars = query_vars d scope.asked in
+    let occur = all_occurrences (literals_terms (literals_of d)) in
+    let k = (kept values x inside set base c plain pred low (rule_vars scope.asked c)).alone in
+    ap (λ (m : Atom → Bool). is_body_true m (by_place vars by) (query_by s d scope).query) (meant_numbered values (of_templates base set) pred (pred + length d.kinds) d.clauses k.heads)
+    ∙ literals_numbered (meant values (of_templates base set) d.clauses) vars (literals_of d) by
+    (λ v h. has-firsts (occur ++ scope.asked) v ∙ has-append occur scope.asked v ∙ or_left (has occur v) (has scope.asked v) h)
+    ∙ truth_kept values x inside set base c plain pred low (rule_vars scope.asked c) by

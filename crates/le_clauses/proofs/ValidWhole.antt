@@ -6,7 +6,7 @@ use Rattle.std.proofs.lemmas.List.{map-append, get_or_append_left, get_or-map, l
 use Rattle.std.proofs.lemmas.Option.{slice_get-get_or}
 use Rattle.std.proofs.lemmas.List.Elements.{recursion_from_All}
 use Rattle.le_base.specs.declared.code.Code.TheVariants.{TooMany}
-use Rattle.le_base.specs.declared.stop.Span.{Span}
+use Rattle.le_layout.specs.declared.span.Span.{Span}
 use Rattle.le_base.specs.declared.stop.Refusal.{Refusal}
 use Rattle.le_layout.specs.declared.token.Token.{Token}
 use Rattle.le_layout.specs.declared.layout.Layout.{Layout}
@@ -210,6 +210,10 @@ ArePiecesValid users groups count f = IsValidRead users groups count ArePieces p
 few_nodes : (layout : Layout) → IsLayout layout → (sentence : Span) → IsSentenceOver (length layout.tokens) sentence → (n : ℕ) → n ≤ 3 * sentence.to + 4 → n < 2 ^ 31
 few_nodes layout valid sentence over n low = omega (arith, low, over.inside, valid.few, valid.short)
 
+-- the sentences of a section lie among so many tokens
+abbrev pub LiesOver : ℕ → Section → Type 0
+LiesOver count s = AllByRecursion (IsSentenceOver count) s.sentences
+
 module _ (users : List Template) (layout : Layout) (valid : IsLayout layout) where
   rule_valid : (names : List (List ℕ)) (count : ℕ) (groups : List GroupKind) (first : Token) (head : Found Atom) (n : ℕ) (r : Result (Found (List Part)) Refusal) → n < 2 ^ 31 → IsHeadFound users names head → IfOk r (ArePartsFound users head.names) → IfOk r (λ f. length f.value ≡ n)
       → IfOk (rule_read users count groups first head.value r) (AreRulesValid users groups count)
@@ -343,12 +347,11 @@ module _ (users : List Template) (layout : Layout) (valid : IsLayout layout) whe
   either_valid count groups true r t h k = h
   either_valid count groups false r t h k = k
 
-  piece_valid : (names : List (List ℕ)) (count : ℕ) (groups : List GroupKind) (s : Section) → IsSectionOver (length layout.tokens) s → AreNamesToSay names → IfOk (piece_of users names count groups layout s) (IsPieceValid users groups count)
+  piece_valid : (names : List (List ℕ)) (count : ℕ) (groups : List GroupKind) (s : Section) → LiesOver (length layout.tokens) s → AreNamesToSay names → IfOk (piece_of users names count groups layout s) (IsPieceValid users groups count)
   piece_valid names count groups s over h =
-      let spans = recursion_from_All (IsSentenceOver (length layout.tokens)) s.sentences over.sentences in
       either_valid count groups (same_kind s.kind kinds.Query) (piece_of_query users names count groups layout s s.sentences) (clauses_piece s (clauses_of users names count groups layout s.sentences))
-      (query_piece_valid names count groups s s.sentences spans h)
-      (clauses_piece_valid count groups s (clauses_of users names count groups layout s.sentences) (sentences_valid names count groups s.sentences spans h))
+      (query_piece_valid names count groups s s.sentences over h)
+      (clauses_piece_valid count groups s (clauses_of users names count groups layout s.sentences) (sentences_valid names count groups s.sentences over h))
 
   onto_pieces_valid : (count : ℕ) (groups : List GroupKind) (f : Read Piece) (r : Result (Read (List Piece)) Refusal) → IsPieceValid users groups count f → IfOk r (ArePiecesValid users f.groups f.count) → IfOk (onto_pieces f.value r) (ArePiecesValid users groups count)
   onto_pieces_valid count groups f (Ok g) h k = record {
@@ -373,7 +376,7 @@ module _ (users : List Template) (layout : Layout) (valid : IsLayout layout) whe
   if_read count groups true r t h k = h
   if_read count groups false r t h k = k
 
-  pieces_valid : (names : List (List ℕ)) (count : ℕ) (groups : List GroupKind) (sections : List Section) → AllByRecursion (IsSectionOver (length layout.tokens)) sections → AreNamesToSay names → IfOk (pieces_of users names count groups layout sections) (ArePiecesValid users groups count)
+  pieces_valid : (names : List (List ℕ)) (count : ℕ) (groups : List GroupKind) (sections : List Section) → AllByRecursion (LiesOver (length layout.tokens)) sections → AreNamesToSay names → IfOk (pieces_of users names count groups layout sections) (ArePiecesValid users groups count)
   pieces_valid names count groups [] over h = record { names_ = h; ns = []; many = omega arith; valid = λ arity total fit agree le. tt; counted = omega arith; few = λ low. low }
   pieces_valid names count groups (s ∷ sections) over h =
       if_read count groups (is_read s) (elim (piece_of users names count groups layout s) [ Ok f ↦ onto_pieces f.value (pieces_of users f.names f.count f.groups layout sections) | Err e ↦ Err e ]) (pieces_of users names count groups layout sections)
@@ -432,20 +435,22 @@ whole_by_valid users (Ok f) h =
     }
 whole_by_valid users (Err r) h = tt
 
-users_valid : (layout : Layout) (sections : List Section) → IsLayout layout → AllByRecursion (IsSectionOver (length layout.tokens)) sections → (r : Result (List Template) Refusal)
+users_valid : (layout : Layout) (sections : List Section) → IsLayout layout → AllByRecursion (LiesOver (length layout.tokens)) sections → (r : Result (List Template) Refusal)
     → IfOk (elim r [ Ok users ↦ whole_by users (pieces_of users [] 0 [] layout sections) | Err e ↦ Err e ]) IsWhole
 users_valid layout sections valid over (Ok users) =
     whole_by_valid users (pieces_of users [] 0 [] layout sections) (pieces_valid users layout valid [] 0 [] sections over (record { distinct = tt; quotable = tt }))
 users_valid layout sections valid over (Err r) = tt
 
 -- The whole of a document is valid.
-pub whole_valid : (layout : Layout) (doc : Doc) → IsLayout layout → All (IsSectionOver (length layout.tokens)) doc.sections → IfOk (program_of layout doc) IsWhole
+pub whole_valid : (layout : Layout) (doc : Doc) → IsLayout layout → AllByRecursion (LiesOver (length layout.tokens)) doc.sections → IfOk (program_of layout doc) IsWhole
 unfolding program_of
-whole_valid layout doc valid over =
-    users_valid layout doc.sections valid (recursion_from_All (IsSectionOver (length layout.tokens)) doc.sections over) (users_of layout doc)
+whole_valid layout doc valid over = users_valid layout doc.sections valid over (users_of layout doc)
 
 given_ok : {X E : Type 0} (P : X → Type 0) (r : Result X E) (x : X) → r ≡ Ok x → IfOk r P → P x
 given_ok P r x e h = subst (λ s. IfOk s P) e h
 
 pub valid_if_read : (layout : Layout) (doc : Doc) (whole : Whole) → IsLayout layout → All (IsSectionOver (length layout.tokens)) doc.sections → program_of layout doc ≡ Ok whole → IsWhole whole
-valid_if_read layout doc whole valid over e = given_ok IsWhole (program_of layout doc) whole e (whole_valid layout doc valid over)
+valid_if_read layout doc whole valid over e =
+    let n = length layout.tokens in
+    let lie = all_weaker (IsSectionOver n) (LiesOver n) (λ s h. recursion_from_All (IsSentenceOver n) s.sentences h.sentences) doc.sections (recursion_from_All (IsSectionOver n) doc.sections over) in
+    given_ok IsWhole (program_of layout doc) whole e (whole_valid layout doc valid lie)

@@ -100,7 +100,7 @@ kinds_branches : (rule : List ℕ) (pred : ℕ) (cs : Conditions) → kinds_in (
 unfolding branched
 kinds_branches rule pred cs = ap (λ (d : Draft). d.kinds) (branches_same rule pred cs)
 
--- a part before what is done behind it, where the next group inside has this predicate
+-- a part before what is done after it, where the next group inside has this predicate
 abbrev with_pred : List ℕ → Mark → ℕ → List Done → List Done
 with_pred rule m n ds =
     done_by m.mode (begins_group rule m.mode m.part) (head_by rule m.pred (vars_by m.part ds)) m.part (line_by m.part ds) (vars_by m.part ds)

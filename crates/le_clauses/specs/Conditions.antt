@@ -58,7 +58,7 @@ abbrev pub without_first : List Condition → List Condition
 without_first [] = []
 without_first (c ∷ cs) = cs
 
--- so many conditions from the first on, and those behind them
+-- so many conditions from the first on, and those after them
 abbrev pub taken : ℕ → List Condition → Conditions
 taken zero cs = none
 taken (suc n) cs = more (first_of cs) (taken n (without_first cs))
@@ -67,7 +67,7 @@ abbrev pub left : ℕ → List Condition → List Condition
 left zero cs = cs
 left (suc n) cs = left n (without_first cs)
 
--- a part before the conditions that stand behind it: it takes those below it
+-- a part before the conditions that stand after it: it takes those below it
 abbrev pub with_part : Part → List Condition → List Condition
 with_part p cs = elim p [
   | parts.Sentence line atom ↦ sentence line atom ∷ cs

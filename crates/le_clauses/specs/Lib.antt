@@ -11,3 +11,4 @@ pub mod Pieces
 pub mod Selection
 pub mod Validity
 pub mod Saying
+pub mod Documents

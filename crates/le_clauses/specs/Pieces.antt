@@ -1,7 +1,7 @@
 -- A document's pieces: the clauses of its knowledge bases and scenarios, and its queries. This project's profile.
 use Rattle.std.specs.Prelude.{ℕ, ◌+◌, Bool, true, false, nat_lt, nat_le, if◌then◌else◌, Option, Result, Ok, Err, List, [], ◌∷◌, ◌++◌, length, map, flat_map, get_or}
 use Rattle.le_base.specs.declared.code.Code.TheVariants.{TooMany}
-use Rattle.le_base.specs.declared.stop.Span.{Span}
+use Rattle.le_layout.specs.declared.span.Span.{Span}
 use Rattle.le_base.specs.declared.stop.Refusal.{Refusal}
 use Rattle.le_layout.specs.declared.token.Token.{Token}
 use Rattle.le_layout.specs.declared.layout.Layout.{Layout}
@@ -97,7 +97,7 @@ clauses_of_rule users names count groups layout sentence =
       | Err r ↦ Err r
     ]
 
--- clauses before those of the sentences behind them
+-- clauses before those of the sentences after them
 abbrev pub onto_clauses : List Clause → Result (Read (List Clause)) Refusal → Result (Read (List Clause)) Refusal
 onto_clauses clauses (Ok f) = Ok (record { value = clauses ++ f.value; names = f.names; count = f.count; groups = f.groups })
 onto_clauses clauses (Err r) = Err r
@@ -171,7 +171,7 @@ piece_of users names count groups layout s =
     if same_kind s.kind kinds.Query then piece_of_query users names count groups layout s s.sentences
     else clauses_piece s (clauses_of users names count groups layout s.sentences)
 
--- a piece before those of the sections behind it
+-- a piece before those of the sections after it
 abbrev pub onto_pieces : Piece → Result (Read (List Piece)) Refusal → Result (Read (List Piece)) Refusal
 onto_pieces piece (Ok f) = Ok (record { value = piece ∷ f.value; names = f.names; count = f.count; groups = f.groups })
 onto_pieces piece (Err r) = Err r

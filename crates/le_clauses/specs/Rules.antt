@@ -3,7 +3,7 @@ use Rattle.std.specs.Prelude.{ℕ, ◌-◌, ◌==◌, ◌&&◌, Bool, false, nat
 use Rattle.le_base.specs.declared.code.Code.{Code}
 use Rattle.le_base.specs.declared.code.Code.TheVariants.{NoReading, Again, TooMany, PredefinedHead}
 use Rattle.le_base.specs.declared.stop.FoldKind.{FoldKind}
-use Rattle.le_base.specs.declared.stop.Span.{Span}
+use Rattle.le_layout.specs.declared.span.Span.{Span}
 use Rattle.le_base.specs.declared.stop.Refusal.{Refusal}
 use Rattle.le_base.specs.Code.{code_number}
 use Rattle.le_layout.specs.declared.token.Token.{Token}
@@ -46,13 +46,13 @@ abbrev pub not_predefined : Token → Result (Found Atom) Refusal → Result (Fo
 not_predefined first (Ok f) = refused PredefinedHead first
 not_predefined first (Err r) = if goes_before r PredefinedHead first then Err r else refused PredefinedHead first
 
--- The atom of a conclusion in a new scope, with the names and the scope behind it.
+-- The atom of a conclusion in a new scope, with the names and the scope after it.
 unfoldable pub head_of : List Template → List (List ℕ) → Layout → Span → Result (Found Atom) Refusal
 head_of users names layout span =
     let found = atom_of users names new_scope false layout (tokens_of layout span) in
     if is_predefined (best_of users layout (tokens_of layout span)) then not_predefined (token_of layout span.from) found else found
 
--- a part that was read, with the names and the scope behind it
+-- a part that was read, with the names and the scope after it
 abbrev pub part_found : List (List ℕ) → ScopeState → Part → Result (Found Part) Refusal
 part_found names scope part = Ok (record { value = part; names = names; scope = scope })
 
@@ -92,7 +92,7 @@ kind_part users names scope query layout at conds.Not = part_found names scope (
 kind_part users names scope query layout at conds.ForAll = part_found names scope (parts.ForAll (token_of layout at).line)
 kind_part users names scope query layout at (conds.Gather fold total name) = gather_part users names scope query layout at fold total name
 
--- a part before those of the conditions behind it
+-- a part before those of the conditions after it
 abbrev pub onto_parts : Part → Result (Found (List Part)) Refusal → Result (Found (List Part)) Refusal
 onto_parts part (Ok f) = Ok (record { value = part ∷ f.value; names = f.names; scope = f.scope })
 onto_parts part (Err r) = Err r

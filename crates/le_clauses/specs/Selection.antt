@@ -41,12 +41,12 @@ prelude =
     ∷ prelude_clause 19 (cell (variable 0) (variable 1) ∷ variable 2 ∷ cell (variable 0) (variable 3) ∷ []) (prelude_literal 19 (variable 1 ∷ variable 2 ∷ variable 3 ∷ []) ∷ []) 4
     ∷ []
 
--- the program of a query over these clauses, behind which those of its groups and the prelude stand
+-- the program of a query over these clauses, after which those of its groups and the prelude stand
 abbrev pub program_over : Whole → List Clause → Option Piece → Result Program Refusal
 program_over whole clauses None = Err (refusal_at NoQuery 0 0)
 program_over whole clauses (Some q) = Ok (record { clauses = clauses ++ (q.clauses ++ prelude); query = q.query; asked = q.asked; vars = q.vars; users = length whole.templates; groups = whole.groups; version = 1 })
 
--- the clauses of the knowledge bases, and behind them those of the scenario, where one is asked for and it is there
+-- the clauses of the knowledge bases, and after them those of the scenario, where one is asked for and it is there
 abbrev pub clauses_under : Whole → Option (List ℕ) → Result (List Clause) Refusal
 clauses_under whole None = Ok (knowledge whole.pieces)
 clauses_under whole (Some scenario) =

@@ -75,7 +75,7 @@ others clause = filter (λ v. not (has (all_occurrences clause.head.args) v)) (f
 abbrev pub gives : List Tree → (Atom → Bool) → Clause → List Tree → Bool
 gives values set clause args = for_some values (others clause) (λ by. is_body_true set by clause.body) (assigned clause.head.args args)
 
--- The atoms that are true by a set and by the clauses of auxiliary predicates: the body of a clause speaks of groups inside its own alone, whose clauses stand behind it.
+-- The atoms that are true by a set and by the clauses of auxiliary predicates: the body of a clause speaks of groups inside its own alone, whose clauses stand after it.
 abbrev pub meant : List Tree → (Atom → Bool) → List Clause → Atom → Bool
 meant values set [] atom = set atom
 meant values set (clause ∷ clauses) atom =
@@ -99,6 +99,10 @@ abbrev mutual
   ArePlain pred none = Unit {0}
   ArePlain pred (more c cs) = IsPlain pred c × ArePlain pred cs
 
+-- the values of variables by their places among these, where these are the values by their own numbers
+abbrev pub by_place : List ℕ → (ℕ → Tree) → ℕ → Tree
+by_place vars by k = by (at_place vars k)
+
 -- the values of a clause's variables by their numbers, where these are the values of the rule's variables
 abbrev pub by_number : Clause → (ℕ → Tree) → ℕ → Tree
-by_number clause by k = by (at_place (all_variables (clause_terms clause)) k)
+by_number clause = by_place (all_variables (clause_terms clause))

@@ -149,7 +149,7 @@ done_by (Some kind) begins head p line vars d =
 abbrev pub left_by : Part → List Done → List Done
 left_by p ds = drop_done (length (below p)) ds
 
--- a part before the conditions that are done behind it
+-- a part before the conditions that are done after it
 abbrev pub with_mark : List ℕ → Mark → List Done → List Done
 with_mark rule m ds =
     let begins = begins_group rule m.mode m.part in

@@ -8,8 +8,8 @@ ghost use Rattle.le_match.specs.Terms.{atom_of};
 ghost use Rattle.le_conds.specs.Bounds.{IsPart};
 ghost use Rattle.le_clauses.specs.Rules.{new_scope, is_predefined as is_predefined_reading, goes_before as goes_before_token, not_predefined, head_of};
 
-use le_base::{Code, Refusal, Span, Stop};
-use le_layout::{Layout, Token};
+use le_base::{Code, Refusal, Stop};
+use le_layout::{Layout, Span, Token};
 use le_match::{BestReading, best, read};
 use le_scope::Scope;
 use le_templates::Templates;
@@ -32,13 +32,13 @@ pub fn conclusion(
 {
     let first = layout.token(tokens.from);
     match atom(alloc, layout, templates, names, scope, false, tokens) {
-        Ok(atom) if atom.pred < 20 => Err(refused(alloc, Code::PredefinedHead, first)),
+        Ok(atom) if atom.pred < 20 => Err(first.refused(alloc, Code::PredefinedHead)),
         Ok(atom) => Ok(atom),
         Err(Stop::Memory) => Err(Stop::Memory),
         Err(Stop::Refused(refusal)) => {
             let predefined = is_predefined(&best(alloc, layout, templates, tokens)?);
             if predefined && !goes_before(&refusal, Code::PredefinedHead, first) {
-                return Err(refused(alloc, Code::PredefinedHead, first));
+                return Err(first.refused(alloc, Code::PredefinedHead));
             }
             Err(Stop::Refused(refusal))
         }
@@ -83,11 +83,4 @@ pub fn atom(
         return Err(Stop::Memory);
     }
     read(alloc, layout, templates, names, scope, query, tokens)
-}
-
-/// A refusal at a token.
-pub fn refused(alloc: Global, code: Code, token: Token) -> Stop
-    ensures { result ≡ Refused (refusal_at code token.line token.column) }
-{
-    Stop::Refused(Refusal::at(alloc, code, token.line, token.column))
 }

@@ -4,9 +4,9 @@ ghost use Rattle.le_layout.specs.Layout.{IsLayout};
 ghost use Rattle.le_docs.specs.Bounds.{IsSentenceOver, IsSectionOver};
 ghost use Rattle.le_clauses.specs.Pieces.{declared_after, template_spans};
 
-use le_base::{Span, Stop};
+use le_base::Stop;
 use le_docs::{Section, SectionKind};
-use le_layout::Layout;
+use le_layout::{Layout, Span};
 use le_templates::Templates;
 use std::alloc::Global;
 

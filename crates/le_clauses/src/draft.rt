@@ -1,45 +1,11 @@
 ghost use Rattle.std.specs.Prelude.{◌≡◌};
 
 use crate::part::Part;
+use le_base::List;
 use le_terms::{Atom, Clauses, GroupKind, Groups, Literals};
-use std::marker::Model;
 
-/// Some numbers of variables, which contracts see as a list.
-#[derive(Debug, Drop)]
-pub struct Numbers {
-    items: Vec<u32>,
-}
-
-impl Model for Numbers {
-    ghost use Rattle.std.specs.Prelude.{List, ℕ};
-
-    ghost Value = { List ℕ };
-
-    ghost view = { λ x. x.items.items };
-}
-
-impl Numbers {
-    /// These.
-    pub fn from_vec(items: Vec<u32>) -> Self
-        ensures { result ≡ items.items }
-    {
-        Numbers { items }
-    }
-
-    /// The vector of them.
-    pub fn into_vec(self) -> Vec<u32>
-        ensures { result.items ≡ self }
-    {
-        self.items
-    }
-
-    /// They, borrowed.
-    pub fn as_slice(&self) -> &[u32]
-        ensures { result.now ≡ self.now }
-    {
-        self.items.as_slice()
-    }
-}
+/// Some numbers of variables.
+pub type Numbers = List<u32>;
 
 /// Literals that are to hold together.
 #[derive(Debug, Drop)]
@@ -50,47 +16,8 @@ pub struct Body {
     pub literals: Literals,
 }
 
-/// Some bodies, which contracts see as a list.
-#[derive(Debug, Drop)]
-pub struct Bodies {
-    items: Vec<Body>,
-}
-
-impl Model for Bodies {
-    ghost use Rattle.std.specs.Prelude.{List};
-    ghost use Rattle.std.specs.Coded.{codes};
-    ghost use Rattle.le_terms.specs.Tree.{tree_code};
-    ghost use Rattle.le_clauses.specs.declared.draft.Body.{Body};
-
-    ghost Value = { List Body };
-
-    ghost coded = { Prim.hlevel (codes, tree_code) };
-
-    ghost view = { λ x. x.items.items };
-}
-
-impl Bodies {
-    /// These.
-    pub fn from_vec(items: Vec<Body>) -> Self
-        ensures { result ≡ items.items }
-    {
-        Bodies { items }
-    }
-
-    /// The vector of them.
-    pub fn into_vec(self) -> Vec<Body>
-        ensures { result.items ≡ self }
-    {
-        self.items
-    }
-
-    /// They, borrowed.
-    pub fn as_slice(&self) -> &[Body]
-        ensures { result.now ≡ self.now }
-    {
-        self.items.as_slice()
-    }
-}
+/// Some bodies.
+pub type Bodies = List<Body>;
 
 /// What conditions are translated to: one body, or for the whole of a group one for each branch; and the
 /// clauses and the kinds of the groups inside, in the order of their numbers.

@@ -11,7 +11,7 @@ use crate::draft::{Bodies, Body, Done, Draft, Made, Mark, Numbers};
 use crate::marking::{begins_group, pred_inside};
 use crate::occurrences::{Occurrences, add_term, atom_vars, group_head};
 use crate::part::Part;
-use le_base::FoldKind;
+use le_base::{Copied, FoldKind};
 use le_terms::{
     Atom, Clause, ClauseKind, Clauses, Form, GroupKind, Groups, Literal, Literals, Sym, Term, Terms,
 };

@@ -22,7 +22,7 @@ mod translate;
 mod translating;
 mod whole;
 
-pub use laws::{programs_can_be_said, truth_kept};
+pub use laws::{documents_are_valid, programs_can_be_said, truth_kept};
 pub use part::Part;
 pub use selecting::select;
 pub use translating::program;

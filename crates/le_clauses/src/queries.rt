@@ -10,16 +10,15 @@ ghost use Rattle.le_clauses.specs.Shapes.{IsShape};
 ghost use Rattle.le_clauses.specs.Pieces.{name_at, within_limit, asked_by, query_draft, query_by, query_read, query_of};
 
 use crate::Piece;
-use crate::conclusions::refused;
 use crate::numbering::{add_literals, literals_numbered, numbered_all, place, small_count};
 use crate::occurrences::first_ones;
 use crate::part::Part;
 use crate::rules::{is_over, next_pred, tree_parts};
 use crate::translate::translate;
-use le_base::{Code, Span, Stop, Text};
+use le_base::{Code, MOST_VARIABLES, Stop, Text};
 use le_conds::conditions;
 use le_docs::Section;
-use le_layout::{Layout, Token};
+use le_layout::{Layout, Span, Token};
 use le_scope::Scope;
 use le_templates::Templates;
 use le_terms::{Asked, AskedList, Clauses, GroupKind, Groups, Literal, Literals, Names};
@@ -41,7 +40,7 @@ pub fn query(
     ensures exact { Gives (λ piece. record { value = piece; names = names.new; count = count.new; groups = groups.new.items }) result (query_of templates.now names.old count.old groups.old.items layout.now section.now sentence) }
 {
     let conds = conditions(alloc, layout, sentence)?;
-    let mut scope = Scope::with_limit(alloc, 64);
+    let mut scope = Scope::with_limit(alloc, MOST_VARIABLES);
     let nodes = conds.nodes.as_slice();
     let parts = tree_parts(alloc, layout, templates, names, &mut scope, true, nodes)?;
     let begin = layout.token(sentence.from);
@@ -159,7 +158,7 @@ fn counted_query(
 {
     let more = piece.clauses.as_slice().len();
     if is_over(*count, more) {
-        return Err(refused(alloc, Code::TooMany, begin));
+        return Err(begin.refused(alloc, Code::TooMany));
     }
     groups.extend_from_slice(kinds.as_slice())?;
     *count += more as u32;

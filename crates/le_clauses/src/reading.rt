@@ -8,11 +8,11 @@ ghost use Rattle.le_scope.specs.Scopes.{introduction, introduced};
 ghost use Rattle.le_conds.specs.Bounds.{IsPart, IsCondIn};
 ghost use Rattle.le_clauses.specs.Rules.{sentence_part as sentence_part_of, is_gather as is_gather_of, value_part, gather_part as gather_part_of, kind_part, parts_of};
 
-use crate::conclusions::{atom, refused};
+use crate::conclusions::atom;
 use crate::part::Part;
-use le_base::{Code, FoldKind, Span, Stop};
+use le_base::{Code, FoldKind, Stop};
 use le_conds::{Cond, CondKind};
-use le_layout::Layout;
+use le_layout::{Layout, Span};
 use le_match::term;
 use le_scope::{Intro, Scope, is_name, phrase_name, shape};
 use le_templates::Templates;
@@ -113,7 +113,7 @@ fn gather_part(
 {
     let first = layout.token(at);
     if !is_gather(alloc, layout, total, name)? {
-        return Err(refused(alloc, Code::NoReading, first));
+        return Err(first.refused(alloc, Code::NoReading));
     }
     let total = result_term(alloc, layout, templates, names, scope, query, total)?;
     named_part(alloc, layout, scope, first.line, fold, total, name)
@@ -177,7 +177,7 @@ fn named_part(
             result: total,
             value,
         }),
-        Intro::Again => Err(refused(alloc, Code::Again, each)),
-        Intro::Full => Err(refused(alloc, Code::TooMany, each)),
+        Intro::Again => Err(each.refused(alloc, Code::Again)),
+        Intro::Full => Err(each.refused(alloc, Code::TooMany)),
     }
 }

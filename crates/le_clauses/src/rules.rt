@@ -7,13 +7,13 @@ ghost use Rattle.le_clauses.specs.Rules.{body_nodes, parts_of};
 ghost use Rattle.le_clauses.specs.Shapes.{AreNodesIn, NodesFit, IsShape};
 ghost use Rattle.le_clauses.specs.Pieces.{next_pred as next_pred_of, within_limit, rule_translated, clauses_of_rule};
 
-use crate::conclusions::{conclusion, refused};
+use crate::conclusions::conclusion;
 use crate::part::Part;
 use crate::reading::parts;
 use crate::translate::rule_clauses;
-use le_base::{Code, Span, Stop};
+use le_base::{Code, MOST_CLAUSES, MOST_VARIABLES, Stop};
 use le_conds::{Cond, Conds, split_rule};
-use le_layout::{Layout, Token};
+use le_layout::{Layout, Span, Token};
 use le_scope::Scope;
 use le_templates::Templates;
 use le_terms::{Atom, Clause, Clauses, GroupKind, Groups, Names};
@@ -35,7 +35,7 @@ pub fn rule(
     ensures exact { Gives (λ clauses. record { value = clauses.items; names = names.new; count = count.new; groups = groups.new.items }) result (clauses_of_rule templates.now names.old count.old groups.old.items layout.now sentence) }
 {
     let (first, conds) = split_rule(alloc, layout, sentence)?;
-    let mut scope = Scope::with_limit(alloc, 64);
+    let mut scope = Scope::with_limit(alloc, MOST_VARIABLES);
     let head = conclusion(alloc, layout, templates, names, &mut scope, first)?;
     let parts = body_parts(alloc, layout, templates, names, &mut scope, conds)?;
     let begin = layout.token(sentence.from);
@@ -131,16 +131,16 @@ fn counted_rule(
 {
     let clauses = clauses.into_vec();
     if is_over(*count, clauses.len()) {
-        return Err(refused(alloc, Code::TooMany, begin));
+        return Err(begin.refused(alloc, Code::TooMany));
     }
     groups.extend_from_slice(kinds.as_slice())?;
     *count += clauses.len() as u32;
     Ok(clauses)
 }
 
-/// Whether there are more than 50,000 clauses where so many more stand behind so many.
+/// Whether there are more than 50,000 clauses where so many more stand after so many.
 pub fn is_over(count: u32, more: usize) -> bool
     ensures { result ≡ nat_lt 50000 (count + more) }
 {
-    more > 50_000 || count > 50_000 - more as u32
+    more > MOST_CLAUSES as usize || count > MOST_CLAUSES - more as u32
 }

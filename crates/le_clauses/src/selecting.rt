@@ -7,7 +7,7 @@ ghost use Rattle.le_clauses.specs.Validity.{IsWhole};
 
 use crate::prelude::prelude;
 use crate::{Piece, Whole};
-use le_base::{Code, Refusal, Stop};
+use le_base::{Code, Copied, Refusal, Stop};
 use le_docs::SectionKind;
 use le_terms::{Clause, Clauses, Program};
 use std::alloc::{AllocError, Global};
@@ -15,7 +15,7 @@ use std::alloc::{AllocError, Global};
 /// The program of the query with this name: the clauses of the knowledge bases in the order of the text,
 /// then those of the scenario with the other name, where one is given, those of the query's groups, and
 /// the prelude. Refused with `NoScenario` at line 0 column 0 exactly where no scenario has its name, and else with `NoQuery` there
-/// exactly where no query has its name. `Memory` is want of memory. The whole is that of a document.
+/// exactly where no query has its name. The whole is that of a document.
 pub fn select(
     alloc: Global,
     whole: &Whole,
@@ -44,7 +44,7 @@ pub fn select(
     })
 }
 
-// The clauses of the knowledge bases, and behind them those of the scenario, where one is asked for.
+// The clauses of the knowledge bases, and after them those of the scenario, where one is asked for.
 fn clauses(alloc: Global, whole: &Whole, scenario: Option<&str>) -> Result<Vec<Clause>, Stop>
     ensures exact { Gives (λ clauses. clauses.items) result (clauses_under whole.now (option_map (λ s. s.now) scenario.entry)) }
 {
@@ -71,7 +71,7 @@ fn named<'a>(pieces: &'a [Piece], kind: SectionKind, name: &str) -> Option<&'a P
         .find(|piece| piece.kind.is(kind) && piece.name.as_str() == name)
 }
 
-// Adds the clauses of the knowledge bases. The error is want of memory.
+// Adds the clauses of the knowledge bases.
 #[tactic(auto, unfolding(crate::specs::Selection::knowledge))]
 fn add_knowledge(
     alloc: Global,
@@ -88,7 +88,7 @@ fn add_knowledge(
     Ok(())
 }
 
-// Adds equal clauses. The error is want of memory.
+// Adds equal clauses.
 fn add(alloc: Global, more: &[Clause], clauses: &mut Vec<Clause>) -> Result<(), AllocError>
     ensures { OnOk result (clauses.new.items ≡ clauses.old.items ++ more.now) }
 {

@@ -2,7 +2,7 @@ use crate::{Pieces, program, select};
 use le_base::Stop;
 use le_docs::sections;
 use le_layout::scan;
-use le_terms::{Atom, Form, Literal, Program, Sym};
+use le_terms::{Atom, Form, GroupKind, Literal, Program, Sym};
 use std::alloc::{AllocError, Global};
 use std::test::Fail;
 
@@ -50,7 +50,8 @@ fn add_literals(out: &mut String, literals: &[Literal]) -> Result<(), AllocError
     Ok(())
 }
 
-// A program as a text: the line, head, body and variables of each clause, and the query with what it asks for.
+// A program as a text: the line, head, body and variables of each clause, the query with what it asks for, and the kinds
+// of the groups.
 fn told(alloc: Global, program: &Program) -> Result<String, AllocError> {
     let mut out = String::new(alloc);
     for clause in program.clauses.as_slice() {
@@ -79,7 +80,20 @@ fn add_asked(out: &mut String, program: &Program) -> Result<(), AllocError> {
     }
     let vars = program.vars;
     let users = program.users;
-    write!(out, " /{vars} {users}")
+    write!(out, " /{vars} {users}")?;
+    for kind in program.groups.as_slice() {
+        out.push_str(kind_word(*kind))?;
+    }
+    Ok(())
+}
+
+fn kind_word(kind: GroupKind) -> &'static str {
+    match kind {
+        GroupKind::Or => " or",
+        GroupKind::Not => " not",
+        GroupKind::Case => " case",
+        GroupKind::Value => " value",
+    }
 }
 
 // The program of the query `q` of a document whose text begins so and goes on so.
@@ -157,17 +171,17 @@ const CASES: [(&str, &str, &str); 22] = [
     (
         "a person is happy if\n it is not the case that\n  the person likes a thing.\nquery q is:\n which person is happy.\n",
         "",
-        "4: 20(v0) if not 22(v0) /1\n6: 22(v0) if 21(v0v1) /2\n? 20(v0) person=0 /1 2",
+        "4: 20(v0) if not 22(v0) /1\n6: 22(v0) if 21(v0v1) /2\n? 20(v0) person=0 /1 2 not",
     ),
     (
         "a person is happy if\n the person likes tea\n or the person likes Bob.\nquery q is:\n which person is happy\n or the person likes tea.\n",
         "",
-        "4: 20(v0) if 22(v0) /1\n5: 22(v0) if 21(v0c0) /1\n6: 22(v0) if 21(v0c1) /1\n8: 23(v0) if 20(v0) /1\n9: 23(v0) if 21(v0c0) /1\n? 23(v0) person=0 /1 2",
+        "4: 20(v0) if 22(v0) /1\n5: 22(v0) if 21(v0c0) /1\n6: 22(v0) if 21(v0c1) /1\n8: 23(v0) if 20(v0) /1\n9: 23(v0) if 21(v0c0) /1\n? 23(v0) person=0 /1 2 or or",
     ),
     (
         "a person is happy if\n for all cases in which\n  the person likes a thing\n it is the case that\n  the thing is happy.\nquery q is:\n Bob is happy.\n",
         "",
-        "4: 20(v0) if not 22(v0) /1\n6: 22(v0) if 21(v0v1) not 20(v1) /2\n? 20(c0) /0 2",
+        "4: 20(v0) if not 22(v0) /1\n6: 22(v0) if 21(v0v1) not 20(v1) /2\n? 20(c0) /0 2 case",
     ),
     (
         "a person likes a thing if\n the thing is the number of each book such that\n  the person likes the book.\nquery q is:\n Bob is happy.\n",
@@ -193,9 +207,125 @@ const CASES: [(&str, &str, &str); 22] = [
     ),
 ];
 
+// Which refusal comes first, and how gathers, lines, names and groups are read: the text, the scenario, and what is made of it.
+const ORDERS: [(&str, &str, &str); 19] = [
+    // the shape of a sentence goes before its reading, and the reading of a sentence before the shape of the next
+    (
+        "Bob runs if\n Bob is happy\n or Bob is happy\n and Bob is happy.\n",
+        "",
+        "MixedConnectives 7:2",
+    ),
+    (
+        "Bob runs.\nBob is happy if\n Bob is happy\n or Bob is happy\n and Bob is happy.\n",
+        "",
+        "NoReading 4:1",
+    ),
+    // a gather without a result and a name, and one whose name isn't one, whatever its result is
+    (
+        "Bob is happy if\n Bob is happy\n and is the sum of each such that\n  Bob is happy.\n",
+        "",
+        "NoReading 6:6",
+    ),
+    (
+        "Bob is happy if\n [the old person] is the number of each a such that\n  Bob is happy.\n",
+        "",
+        "NoReading 5:2",
+    ),
+    (
+        "Bob is happy if\n [the old person] is the number of each b such that\n  Bob is happy.\n",
+        "",
+        "Dangling 5:3",
+    ),
+    // conclusions that begin with the words of a gather and of a marker
+    (
+        "the thing is the number of each book such that Bob.\n",
+        "",
+        "NoReading 4:1",
+    ),
+    ("it is the case that Bob is happy.\n", "", "NoReading 4:1"),
+    // an item on the line of a header or of another sentence stands where that line begins
+    (
+        "query q is: which person is happy\nand Bob likes the person.\n",
+        "",
+        "? 20(v0) 21(c0v0) person=0 /1 2",
+    ),
+    (
+        " Bob is happy. Ann is happy if Bob is happy\n and Bob likes Ann.\nquery q is:\n Bob is happy.\n",
+        "",
+        "4: 20(c0) if /0\n4: 20(c1) if 20(c0) 21(c0c1) /0\n? 20(c0) /0 2",
+    ),
+    // constants are numbered in all sections, and the groups are those of the whole document
+    (
+        "scenario s is:\n Ann likes tea.\nscenario t is:\n Bob likes Ann.\nquery q is:\n Carl likes tea.\n",
+        "t",
+        "7: 21(c2c0) if /0\n? 21(c3c1) /0 2",
+    ),
+    (
+        "scenario s is:\n Ann is happy if it is not the case that Ann likes a thing.\nquery q is:\n Bob is happy.\nquery r is:\n Bob is happy\n or Bob likes Ann.\n",
+        "",
+        "? 20(c1) /0 2 not or",
+    ),
+    // a query's variables are numbered in its literals, where those of a group alone don't stand; that group has no arguments
+    (
+        "query q is:\n it is not the case that a friend likes tea\n and which person likes a thing\n and the thing likes which other.\n",
+        "",
+        "5: 22() if 21(v0c0) /1\n? not 22() 21(v0v1) 21(v1v2) person=0 other=2 /3 2 not",
+    ),
+    // one that is asked for occurs outside each group
+    (
+        "query q is:\n it is not the case that Bob likes which thing.\n",
+        "",
+        "? not 21(c0v0) thing=0 /1 2",
+    ),
+    // the result and the value of a gather occur in the groups around it, and not in the one inside it
+    (
+        "a person is happy if\n it is not the case that\n  a count is the number of each book such that\n   the person likes the book\n   and the book is happy\n  and the count is greater than 3.\nquery q is:\n Bob is happy.\n",
+        "",
+        "4: 20(v0) if not 22(v0) /1\n6: 22(v0) if gather 23(v0v2) calc 2(v1other) /3\n7: 23(v0v1) if 21(v0v1) 20(v1) /2\n? 20(c0) /0 2 not value",
+    ),
+    // a disjunction that is the whole of a negation is that one group
+    (
+        "a person is happy if\n it is not the case that\n  the person likes tea\n  or the person likes Bob.\nquery q is:\n Bob is happy.\n",
+        "",
+        "4: 20(v0) if not 22(v0) /1\n6: 22(v0) if 21(v0c0) /1\n7: 22(v0) if 21(v0c1) /1\n? 20(c1) /0 2 not",
+    ),
+    // a `for all` in a negation is a group within that group, and goes before the disjunction that is its first block
+    (
+        "a person is happy if\n it is not the case that\n  for all cases in which\n   the person likes a thing\n   or the thing is happy\n  it is the case that\n   the thing likes the person.\nquery q is:\n Bob is happy.\n",
+        "",
+        "4: 20(v0) if not 22(v0) /1\n6: 22(v0) if not 23(v0) /1\n7: 23(v0) if 24(v0v1) not 21(v1v0) /2\n7: 24(v0v1) if 21(v0v1) /2\n8: 24(v0v1) if 20(v1) /2\n? 20(c0) /0 2 not case or",
+    ),
+    // and one that is a second block is a group within that group
+    (
+        "Bob is happy if for all cases in which\n  Ann is happy\n it is the case that\n  for all cases in which Bob likes tea\n  it is the case that Bob likes Ann.\nquery q is:\n Bob is happy.\n",
+        "",
+        "4: 20(c0) if not 22() /0\n5: 22() if 20(c1) not 23() /0\n7: 23() if not 24() /0\n7: 24() if 21(c0c2) not 21(c0c1) /0\n? 20(c0) /0 2 case not case",
+    ),
+    // a disjunction within a branch, and the disjunction of a second block
+    (
+        "a person is happy if\n the person likes tea\n or the person likes Bob\n  and the person likes Ann\n   or Ann is happy.\nquery q is:\n Bob is happy.\n",
+        "",
+        "4: 20(v0) if 22(v0) /1\n5: 22(v0) if 21(v0c0) /1\n6: 22(v0) if 21(v0c1) 23(v0) /1\n7: 23(v0) if 21(v0c2) /1\n8: 23(v0) if 20(c2) /1\n? 20(c1) /0 2 or or",
+    ),
+    (
+        "a person is happy if\n for all cases in which the person likes a thing\n it is the case that\n  the thing is happy\n  or the thing is equal to the person.\nquery q is:\n Bob is happy.\n",
+        "",
+        "4: 20(v0) if not 22(v0) /1\n5: 22(v0) if 21(v0v1) not 23(v1v0) /2\n7: 23(v0v1) if 20(v0) /2\n8: 23(v0v1) if calc 0(v0v1) /2\n? 20(c0) /0 2 case not",
+    ),
+];
+
 #[test]
 fn programs_of_texts(rt: HostRuntime) -> Result<(), Fail> {
     for (rest, scenario, expected) in CASES {
+        let found = outcome(rt.alloc(), rest, scenario)?;
+        assert_eq!(rt; found.as_str(), expected, "{rest:?}");
+    }
+    Ok(())
+}
+
+#[test]
+fn orders_of_texts(rt: HostRuntime) -> Result<(), Fail> {
+    for (rest, scenario, expected) in ORDERS {
         let found = outcome(rt.alloc(), rest, scenario)?;
         assert_eq!(rt; found.as_str(), expected, "{rest:?}");
     }

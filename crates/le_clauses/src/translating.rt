@@ -9,9 +9,9 @@ use crate::declaring::declared;
 use crate::queries::query;
 use crate::rules::rule;
 use crate::{Piece, Pieces, Whole};
-use le_base::{Span, Stop, Text};
+use le_base::{Stop, Text};
 use le_docs::{Doc, Section, SectionKind};
-use le_layout::Layout;
+use le_layout::{Layout, Span};
 use le_templates::Templates;
 use le_terms::{AskedList, Clause, Clauses, GroupKind, Groups, Literals, Names};
 use std::alloc::Global;
@@ -55,7 +55,7 @@ pub fn program(alloc: Global, layout: &Layout, doc: &Doc) -> Result<Whole, Stop>
     })
 }
 
-// The pieces of sections in order. So many clauses stand before them, and then behind them.
+// The pieces of sections in order. So many clauses stand before them, and then after them.
 fn pieces(
     alloc: Global,
     layout: &Layout,

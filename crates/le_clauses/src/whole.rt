@@ -1,10 +1,9 @@
 ghost use Rattle.std.specs.Prelude.{◌≡◌};
 
-use le_base::Text;
+use le_base::{List, Text};
 use le_docs::SectionKind;
 use le_templates::Templates;
 use le_terms::{AskedList, Clauses, Groups, Literals, Names};
-use std::marker::Model;
 
 /// A knowledge base, a scenario or a query of a document.
 #[derive(Debug, Drop)]
@@ -23,47 +22,8 @@ pub struct Piece {
     pub vars: u32,
 }
 
-/// The pieces of a document, in the order of the text, which contracts see as a list.
-#[derive(Debug, Drop)]
-pub struct Pieces {
-    items: Vec<Piece>,
-}
-
-impl Model for Pieces {
-    ghost use Rattle.std.specs.Prelude.{List};
-    ghost use Rattle.std.specs.Coded.{codes};
-    ghost use Rattle.le_terms.specs.Tree.{tree_code};
-    ghost use Rattle.le_clauses.specs.declared.whole.Piece.{Piece};
-
-    ghost Value = { List Piece };
-
-    ghost coded = { Prim.hlevel (codes, tree_code) };
-
-    ghost view = { λ p. p.items.items };
-}
-
-impl Pieces {
-    /// The pieces of a vector. It takes no memory.
-    pub fn from_vec(items: Vec<Piece>) -> Self
-        ensures { result ≡ items.items }
-    {
-        Pieces { items }
-    }
-
-    /// The vector of the pieces. It takes no memory.
-    pub fn into_vec(self) -> Vec<Piece>
-        ensures { result.items ≡ self }
-    {
-        self.items
-    }
-
-    /// The pieces, borrowed. It takes no memory.
-    pub fn as_slice(&self) -> &[Piece]
-        ensures { result.now ≡ self.now }
-    {
-        self.items.as_slice()
-    }
-}
+/// The pieces of a document, in the order of the text.
+pub type Pieces = List<Piece>;
 
 /// A document whose sentences are read.
 #[derive(Drop)]

@@ -1,6 +1,6 @@
 -- Worked examples of blocks, their trees and their faults.
 use Rattle.std.proofs.Common.{◌≡◌, ℕ, [], ◌∷◌, None, Some, refl}
-use Rattle.le_base.specs.declared.stop.Span.{Span}
+use Rattle.le_layout.specs.declared.span.Span.{Span}
 use Rattle.le_base.specs.declared.stop.FoldKind.TheVariants.{Sum}
 use Rattle.le_base.specs.declared.code.Code.TheVariants.{MixedConnectives, BadIndent, NegationScope}
 use Rattle.le_conds.specs.declared.cond.CondKind.TheVariants as kinds

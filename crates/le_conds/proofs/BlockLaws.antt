@@ -1,13 +1,13 @@
 -- A tree that stands by the rules is the one that is found, without a fault.
 use Rattle.std.proofs.Common.{◌≡◌, ◌≤◌, ◌<◌, ℕ, ◌&&◌, Bool, true, false, not, cond, max, ltb, leb, List, [], ◌∷◌, ◌++◌, map, flat_map, Option, Some, None, refl, sym, ap, ◌∙◌, subst, arith, append_assoc, append-nil}
 use Rattle.std.proofs.lemmas.Bool.{and_parts, lt-ltb, le-ltb, ltb-true, ltb-false, lt-leb, true≢false}
-use Rattle.le_base.specs.declared.stop.Span.{Span}
+use Rattle.le_layout.specs.declared.span.Span.{Span}
 use Rattle.le_base.specs.declared.code.Code.TheVariants.{BadIndent, MixedConnectives}
 use Rattle.le_conds.specs.declared.entry.Join.{Join}
 use Rattle.le_conds.specs.declared.entry.Join.TheVariants.{Plain, And, Or}
 use Rattle.le_conds.specs.declared.entry.Opens.TheVariants.{Nothing, Negation, ForAll, Second, Gather}
 use Rattle.le_conds.specs.declared.entry.Entry.{Entry}
-use Rattle.le_conds.specs.declared.faults.Fault.{Fault}
+use Rattle.le_layout.specs.declared.fault.Fault.{Fault}
 use Rattle.le_conds.specs.Trees.{Tree, Trees, none, more, sentence, negation, for_all, gather}
 use Rattle.le_conds.specs.Members.{Member, is_marker, belongs, inside, following, before_marker, through_marker, from_marker, without_first, deepest_of, trees_of, of_several, joined, first_lead, inline_of, block, with_second, member, with_opener, members_of, tree_of}
 use Rattle.le_conds.specs.Faults.{fault_if, is_connective, same_lead, member_faults, headed_faults, block_faults, nothing_below, is_bare, no_items, scope_faults, between_faults, marker_faults, for_all_faults, negation_faults, opener_faults, each_fault, shape_faults}

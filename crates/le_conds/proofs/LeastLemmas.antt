@@ -1,95 +1,46 @@
 -- The fault that decides is one that none precedes.
-use Rattle.std.proofs.Common.{◌≡◌, ◌≤◌, ◌==◌, ◌&&◌, ◌||◌, Bool, true, false, cond, nat_lt, List, [], ◌∷◌, Option, Some, None, refl, sym, ap, ◌∙◌, arith}
-use Rattle.std.specs.Prelude.{IfSome}
-use Rattle.std.specs.List.{AllByRecursion}
-use Rattle.std.proofs.lemmas.Bool.{or_parts, le-ltb, ltb-false, eqb-true, eq-eqb, ltb-true, true≢false}
-use Rattle.le_base.specs.Code.{code_number}
-use Rattle.le_conds.specs.declared.faults.Fault.{Fault}
-use Rattle.le_conds.specs.Faults.{precedes, sooner, least_of, IsLeast}
+use Rattle.std.proofs.Common.{◌≡◌, zero, suc, Bool, true, false, cond, List, [], ◌∷◌, Option, Some, None, refl, ap, arith}
+use Rattle.std.specs.Prelude.{All, IfSome}
+use Rattle.std.specs.List.{Contains}
+use Rattle.std.proofs.lemmas.Bool.{true≢false}
+use Rattle.std.proofs.lemmas.List.Elements.{All-nil, All-cons, All-head, All-tail}
+use Rattle.le_layout.specs.declared.fault.Fault.{Fault}
+use Rattle.le_layout.specs.Fault.{precedes, sooner, IsLeast}
+use Rattle.le_layout.proofs.FaultLemmas.{same_not, chain_not, other_not}
+use Rattle.le_conds.specs.Faults.{least_of}
 use Rattle.le_conds.proofs.SoundLemmas.{least_none}
 
--- what it is not to precede: a greater place, or the same with no lesser number
-record NotBefore (f g : Fault) : Type 0 where
-  place : g.place ≤ f.place
-  number : f.place ≡ g.place → code_number g.code ≤ code_number f.code
+all_not : (fs : List Fault) (g f : Fault) → All (λ h. precedes h g ≡ false) fs → precedes g f ≡ false → All (λ h. precedes h f ≡ false) fs
+all_not [] g f all b = All-nil (λ h. precedes h f ≡ false)
+all_not (h ∷ fs) g f all b =
+    All-cons (λ h. precedes h f ≡ false) h fs
+    (chain_not h g f (All-head (λ h. precedes h g ≡ false) h fs all) b)
+    (all_not fs g f (All-tail (λ h. precedes h g ≡ false) h fs all) b)
 
-not_before : (f g : Fault) → precedes f g ≡ false → NotBefore f g
-not_before f g e =
-    let parts = or_parts (nat_lt f.place g.place) ((f.place == g.place) && nat_lt (code_number f.code) (code_number g.code)) e in
-    record {
-      place = ltb-false f.place g.place parts.0;
-      number = λ (same : f.place ≡ g.place). ltb-false (code_number f.code) (code_number g.code) (sym (ap (λ b. b && nat_lt (code_number f.code) (code_number g.code)) (eq-eqb f.place g.place same)) ∙ parts.1);
-    }
-
-both_false : (a b : Bool) → a ≡ false → b ≡ false → (a || b) ≡ false
-both_false a b e f = ap (λ x. x || b) e ∙ f
-
-by_equal : (f g : Fault) (b : Bool) → (f.place == g.place) ≡ b → NotBefore f g → (b && nat_lt (code_number f.code) (code_number g.code)) ≡ false
-by_equal f g true e n = le-ltb (code_number f.code) (code_number g.code) (n.number (eqb-true f.place g.place e))
-by_equal f g false e n = refl
-
-before_not : (f g : Fault) → NotBefore f g → precedes f g ≡ false
-before_not f g n =
-    both_false (nat_lt f.place g.place) ((f.place == g.place) && nat_lt (code_number f.code) (code_number g.code))
-    (le-ltb f.place g.place n.place) (by_equal f g (f.place == g.place) refl n)
-
-same_not : (f : Fault) → precedes f f ≡ false
-same_not f = before_not f f (record { place = omega arith; number = λ (e : f.place ≡ f.place). omega arith })
-
-chain_not : (h g f : Fault) → precedes h g ≡ false → precedes g f ≡ false → precedes h f ≡ false
-chain_not h g f a b =
-    let x = not_before h g a in
-    let y = not_before g f b in
-    before_not h f (record {
-      place = omega (arith, x.place, y.place);
-      number = λ (e : h.place ≡ f.place).
-          let i : h.place ≡ g.place = omega (arith, x.place, y.place, e) in
-          let j : g.place ≡ f.place = omega (arith, x.place, y.place, e) in
-          let m = x.number i in
-          let n = y.number j in
-          omega (arith, m, n);
-    })
-
--- of two faults one doesn't precede the other
-by_parts : (g f : Fault) (low same less : Bool) → nat_lt g.place f.place ≡ low → (g.place == f.place) ≡ same → nat_lt (code_number g.code) (code_number f.code) ≡ less → (low || (same && less)) ≡ true → NotBefore f g
-by_parts g f true same less a b c h =
-    let low = ltb-true g.place f.place a in
-    record { place = omega (arith, low); number = λ (e : f.place ≡ g.place). omega (arith, low, e) }
-by_parts g f false true true a b c h =
-    let e = eqb-true g.place f.place b in
-    let low = ltb-true (code_number g.code) (code_number f.code) c in
-    record { place = omega (arith, e); number = λ (e2 : f.place ≡ g.place). omega (arith, low) }
-by_parts g f false true false a b c h = absurd (true≢false (sym h))
-by_parts g f false false less a b c h = absurd (true≢false (sym h))
-
-other_not : (g f : Fault) → precedes g f ≡ true → precedes f g ≡ false
-other_not g f e = before_not f g (by_parts g f (nat_lt g.place f.place) (g.place == f.place) (nat_lt (code_number g.code) (code_number f.code)) refl refl refl e)
-
-all_not : (fs : List Fault) (g f : Fault) → AllByRecursion (λ h. precedes h g ≡ false) fs → precedes g f ≡ false → AllByRecursion (λ h. precedes h f ≡ false) fs
-all_not [] g f all b = tt
-all_not (h ∷ fs) g f all b = (chain_not h g f all.0 b, all_not fs g f all.1 b)
-
--- the fault that decides among some, with one before them
-first_alone : (f : Fault) (fs : List Fault) → fs ≡ [] → AllByRecursion (λ h. precedes h f ≡ false) (f ∷ fs)
-first_alone f [] e = (same_not f, tt)
-first_alone f (g ∷ fs) e = absurd (true≢false (sym (ap is_none e)))
-  where
-    is_none : List Fault → Bool
-    is_none [] = true
-    is_none (x ∷ xs) = false
+-- the first of faults that it precedes or equals decides
+first_least : (f : Fault) (fs : List Fault) → All (λ h. precedes h f ≡ false) fs → IsLeast (f ∷ fs) f
+first_least f fs all = record {
+  one = (0, omega arith, refl);
+  least = All-cons (λ h. precedes h f ≡ false) f fs (same_not f) all;
+}
 
 with_first : (f g : Fault) (fs : List Fault) (b : Bool) → precedes g f ≡ b → IsLeast fs g → IfSome (cond b (Some g) (Some f)) (λ x. IsLeast (f ∷ fs) x)
 with_first f g fs true e law = record {
-  among = (f ∷ law.among.0, (law.among.1.0, ap (λ xs. f ∷ xs) law.among.1.1));
-  least = (other_not g f e, law.least);
+  one = (suc law.one.0, omega (arith, law.one.1), law.one.2);
+  least = All-cons (λ h. precedes h g ≡ false) f fs (other_not g f e) law.least;
 }
-with_first f g fs false e law = record {
-  among = ([], (fs, refl));
-  least = (same_not f, all_not fs g f law.least e);
-}
+with_first f g fs false e law = first_least f fs (all_not fs g f law.least e)
+
+alone : (f : Fault) (fs : List Fault) → fs ≡ [] → IsLeast (f ∷ fs) f
+alone f [] e = first_least f [] (All-nil (λ h. precedes h f ≡ false))
+alone f (g ∷ fs) e = absurd (true≢false (ap is_more e))
+  where
+    is_more : List Fault → Bool
+    is_more [] = false
+    is_more (x ∷ xs) = true
 
 by_least : (f : Fault) (fs : List Fault) (found : Option Fault) → least_of fs ≡ found → IfSome found (λ g. IsLeast fs g) → IfSome (sooner f found) (λ x. IsLeast (f ∷ fs) x)
-by_least f fs None e law = record { among = ([], (fs, refl)); least = first_alone f fs (least_none fs e) }
+by_least f fs None e law = alone f fs (least_none fs e)
 by_least f fs (Some g) e law = with_first f g fs (precedes g f) refl law
 
 pub least_law : (fs : List Fault) → IfSome (least_of fs) (λ f. IsLeast fs f)

@@ -5,7 +5,7 @@ use Rattle.le_layout.specs.declared.layout.Layout.{Layout}
 use Rattle.le_conds.specs.declared.entry.Join.TheVariants as joins
 use Rattle.le_conds.specs.declared.entry.Opens.TheVariants as opens
 use Rattle.le_conds.specs.declared.entry.Entry.{Entry}
-use Rattle.le_conds.specs.declared.faults.Fault.{Fault}
+use Rattle.le_layout.specs.declared.fault.Fault.{Fault}
 use Rattle.le_conds.specs.Items.{span}
 use Rattle.le_conds.specs.Members.{with_item, members_of}
 use Rattle.le_conds.specs.Faults.{item_faults, each_fault, part_faults, least_onto}

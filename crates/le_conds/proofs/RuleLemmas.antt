@@ -1,7 +1,7 @@
 -- A rule whose first `if` is here.
 use Rattle.std.proofs.Common.{◌≡◌, ◌<◌, ◌+◌, ℕ, cond, nat_lt, sym, ap, ◌∙◌}
 use Rattle.std.proofs.lemmas.Bool.{lt-ltb}
-use Rattle.le_base.specs.declared.stop.Span.{Span}
+use Rattle.le_layout.specs.declared.span.Span.{Span}
 use Rattle.le_layout.specs.declared.layout.Layout.{Layout}
 use Rattle.le_conds.specs.Items.{span}
 use Rattle.le_conds.specs.Rules.{first_if, rule_of, rule_with, fact_with, conditions_among}

@@ -5,7 +5,7 @@ use Rattle.std.proofs.lemmas.Bool.{leb-false, ltb-false}
 use Rattle.std.proofs.lemmas.Option.{none-some}
 use Rattle.std.proofs.lemmas.List.{length-reverse}
 use Rattle.std.proofs.lemmas.List.Elements.{All-nil, All-cons, All-append, All-head, All-tail}
-use Rattle.le_base.specs.declared.stop.Span.{Span}
+use Rattle.le_layout.specs.declared.span.Span.{Span}
 use Rattle.le_base.specs.declared.code.Code.TheVariants.{BadIndent, LongSentence, NegationScope}
 use Rattle.le_layout.specs.declared.layout.Layout.{Layout}
 use Rattle.le_conds.specs.declared.cond.Conds.{Conds}
@@ -18,14 +18,15 @@ use Rattle.le_conds.specs.declared.entry.Join.TheVariants.{Plain, And, Or}
 use Rattle.le_conds.specs.declared.entry.Opens.{Opens}
 use Rattle.le_conds.specs.declared.entry.Opens.TheVariants.{Nothing, Negation, ForAll, Second, Stray, Gather}
 use Rattle.le_conds.specs.declared.entry.Entry.{Entry}
-use Rattle.le_conds.specs.declared.faults.Fault.{Fault}
+use Rattle.le_layout.specs.declared.fault.Fault.{Fault}
 use Rattle.le_conds.specs.Bounds.{IsPart, IsCondIn, OpensOver, IsEntryOver, IsItemOver, AreConds}
 use Rattle.le_conds.specs.Items.{closed, opened, lead_at, open_after, ended_before, items_from, items_of}
 use Rattle.le_conds.specs.Entries.{entries_of}
 use Rattle.le_conds.specs.Trees.{Tree, Trees, more, sentence, negation, at_of, at_of_first, count_of, flat, flat_each, IsJoined, AreJoined}
 use Rattle.le_conds.specs.Trees.{cond as node}
 use Rattle.le_conds.specs.Members.{Member, is_empty, of_several, inline_of, first_lead, without_first, members_of, tree_of, inside, before_marker, from_marker}
-use Rattle.le_conds.specs.Faults.{fault_if, is_long, begins_scope, begins_opener, content_of, part_faults, shape_faults, condition_faults, conclusion_faults, precedes, sooner, least_of}
+use Rattle.le_layout.specs.Fault.{precedes, sooner}
+use Rattle.le_conds.specs.Faults.{fault_if, is_long, begins_scope, begins_opener, content_of, part_faults, shape_faults, condition_faults, conclusion_faults, least_of}
 use Rattle.le_conds.specs.Blocks.{AreMatched, HasHead, IsMember, IsBlock, IsMembers, a_sentence, a_negation, a_negation_of_block, a_gather, a_for_all, head_alone, head_with, one, several, last, next}
 use Rattle.le_conds.specs.Rules.{conditions_among}
 use Rattle.le_conds.specs.Stack.{turned, joint, closing, marking, pushed}

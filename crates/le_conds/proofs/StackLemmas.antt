@@ -5,8 +5,9 @@ use Rattle.std.proofs.Math.Seq.{get_or-append_seam}
 use Rattle.std.proofs.lemmas.List.{get_or_append_left, drop_all, drop_more}
 use Rattle.le_conds.specs.declared.blocks.Waiting.{Waiting}
 use Rattle.le_conds.specs.Members.{Member, is_marker, belongs, inside, before_marker, deepest_of}
-use Rattle.le_conds.specs.declared.faults.Fault.{Fault}
-use Rattle.le_conds.specs.Faults.{least_onto, sooner}
+use Rattle.le_layout.specs.declared.fault.Fault.{Fault}
+use Rattle.le_layout.specs.Fault.{sooner}
+use Rattle.le_conds.specs.Faults.{least_onto}
 use Rattle.le_conds.specs.Stack.{waiting, stacked}
 
 pub length_stacked : (ms : List Member) → length (stacked ms) ≡ length ms

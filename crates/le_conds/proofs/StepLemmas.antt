@@ -3,13 +3,13 @@ use Rattle.std.proofs.Common.{◌≡◌, ◌<◌, ◌≤◌, ◌+◌, ◌-◌, �
 use Rattle.std.proofs.Math.ListN.{get_or}
 use Rattle.std.proofs.Math.Seq.{get_or-append_seam, take-append_seam, drop-append_seam}
 use Rattle.std.proofs.lemmas.List.{reverse-append, get_or_append_left}
-use Rattle.le_base.specs.declared.stop.Span.{Span}
+use Rattle.le_layout.specs.declared.span.Span.{Span}
 use Rattle.le_conds.specs.declared.cond.Cond.{Cond}
 use Rattle.le_conds.specs.declared.cond.CondKind.{CondKind}
 use Rattle.le_conds.specs.declared.entry.Opens.{Opens}
 use Rattle.le_conds.specs.declared.entry.Opens.TheVariants.{Nothing, Negation, ForAll, Second, Stray, Gather}
 use Rattle.le_conds.specs.declared.entry.Entry.{Entry}
-use Rattle.le_conds.specs.declared.faults.Fault.{Fault}
+use Rattle.le_layout.specs.declared.fault.Fault.{Fault}
 use Rattle.le_conds.specs.declared.blocks.Waiting.{Waiting}
 use Rattle.le_conds.specs.Trees.{Tree, sentence, all, some, negation, for_all, gather, at_of, flat}
 use Rattle.le_conds.specs.Trees.{cond as node}

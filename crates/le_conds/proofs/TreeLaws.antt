@@ -1,7 +1,7 @@
 -- Where nothing is wrong with items, the tree that is found is one by the rules.
 use Rattle.std.proofs.Common.{◌≡◌, ◌≤◌, ◌<◌, ℕ, ◌&&◌, ◌⊎◌, inl, inr, Bool, true, false, not, cond, ltb, leb, List, [], ◌∷◌, ◌++◌, map, flat_map, Option, Some, None, refl, sym, ap, ◌∙◌, subst, arith, append_assoc, append-nil}
 use Rattle.std.proofs.lemmas.Bool.{and_parts, lt-ltb, le-ltb, ltb-true, ltb-false, leb-false, true≢false}
-use Rattle.le_base.specs.declared.stop.Span.{Span}
+use Rattle.le_layout.specs.declared.span.Span.{Span}
 use Rattle.le_base.specs.declared.code.Code.{Code}
 use Rattle.le_base.specs.declared.code.Code.TheVariants.{BadIndent, MixedConnectives, NegationScope}
 use Rattle.le_conds.specs.declared.entry.Join.{Join}

@@ -1,7 +1,7 @@
 -- Which trees the blocks of conditions have: this project's profile.
 use Rattle.std.specs.Prelude.{◌≡◌, ◌≤◌, ◌<◌, ℕ, true, false, Option, Some, None, List, [], ◌∷◌, ◌++◌}
 use Rattle.std.specs.List.{AllByRecursion}
-use Rattle.le_base.specs.declared.stop.Span.{Span}
+use Rattle.le_layout.specs.declared.span.Span.{Span}
 use Rattle.le_base.specs.declared.stop.FoldKind.{FoldKind}
 use Rattle.le_conds.specs.declared.entry.Join.{Join}
 use Rattle.le_conds.specs.declared.entry.Join.TheVariants.{Plain}

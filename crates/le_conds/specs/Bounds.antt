@@ -1,6 +1,6 @@
 -- Where the parts of rules and queries lie: this project's profile.
 use Rattle.std.specs.Prelude.{◌≡◌, ℕ, ◌+◌, ◌*◌, ◌-◌, ◌<◌, ◌≤◌, List, length, All, Option, None, Some}
-use Rattle.le_base.specs.declared.stop.Span.{Span}
+use Rattle.le_layout.specs.declared.span.Span.{Span}
 use Rattle.le_layout.specs.declared.layout.Layout.{Layout}
 use Rattle.le_layout.specs.Words.{IsSpan}
 use Rattle.le_conds.specs.declared.cond.CondKind.TheVariants.{Sentence, And, Or, Not, ForAll, Gather}

@@ -1,27 +1,23 @@
 -- What is wrong with the shape of a rule or a query, and which fault decides: this project's profile.
 use Rattle.std.specs.Prelude.{◌≡◌, ℕ, ◌-◌, ◌==◌, ◌&&◌, ◌||◌, Bool, true, false, not, if◌then◌else◌, nat_lt, nat_le, is_some, Option, None, Some, List, [], ◌∷◌, ◌++◌, flat_map}
-use Rattle.std.specs.List.{AllByRecursion}
 use Rattle.le_base.specs.declared.code.Code.{Code}
 use Rattle.le_base.specs.declared.code.Code.TheVariants.{LongSentence, MixedConnectives, BadIndent, NegationScope}
-use Rattle.le_base.specs.declared.stop.Span.{Span}
-use Rattle.le_base.specs.declared.stop.Refusal.{Refusal}
-use Rattle.le_base.specs.Code.{code_number}
-use Rattle.le_base.specs.Stop.{refusal_at}
+use Rattle.le_layout.specs.declared.span.Span.{Span}
+use Rattle.le_layout.specs.declared.fault.Fault.{Fault}
 use Rattle.le_layout.specs.declared.layout.Layout.{Layout}
-use Rattle.le_layout.specs.Words.{token_of}
+use Rattle.le_layout.specs.Fault.{fault_at, sooner}
 use Rattle.le_conds.specs.declared.entry.Join.{Join}
 use Rattle.le_conds.specs.declared.entry.Join.TheVariants.{Plain, And, Or}
 use Rattle.le_conds.specs.declared.entry.Opens.{Opens}
 use Rattle.le_conds.specs.declared.entry.Opens.TheVariants.{Nothing, Negation, ForAll, Second, Stray, Gather}
 use Rattle.le_conds.specs.declared.entry.Entry.{Entry}
-use Rattle.le_conds.specs.declared.faults.Fault.{Fault}
 use Rattle.le_conds.specs.Items.{span}
 use Rattle.le_conds.specs.Openers.{opens_negation, opens_for_all, gather_end}
 use Rattle.le_conds.specs.Members.{Member, is_empty, is_marker, inside, before_marker, from_marker, deepest_of, members_of}
 
 -- a fault where something is so
 abbrev pub fault_if : Bool → Code → ℕ → List Fault
-fault_if is_so code place = if is_so then record { code = code; place = place } ∷ [] else []
+fault_if is_so code place = if is_so then fault_at code place ∷ [] else []
 
 abbrev pub is_connective : Join → Bool
 is_connective Plain = false
@@ -157,15 +153,6 @@ conclusion_faults layout s =
     ++ (fault_if (is_long s) LongSentence s.from
     ++ fault_if (begins_scope layout s) NegationScope s.from)
 
--- whether a fault stands at a lesser place than another, or at the same place with a lesser number
-abbrev pub precedes : Fault → Fault → Bool
-precedes f g = nat_lt f.place g.place || ((f.place == g.place) && nat_lt (code_number f.code) (code_number g.code))
-
--- of two faults the one that the other doesn't precede
-abbrev pub sooner : Fault → Option Fault → Option Fault
-sooner f None = Some f
-sooner f (Some g) = if precedes g f then Some g else Some f
-
 -- the fault that decides among these and one that was found after them
 abbrev pub least_onto : List Fault → Option Fault → Option Fault
 least_onto [] found = found
@@ -174,12 +161,3 @@ least_onto (f ∷ fs) found = sooner f (least_onto fs found)
 -- The fault that decides.
 abbrev pub least_of : List Fault → Option Fault
 least_of fs = least_onto fs None
-
--- A fault is one of some, none of which precedes it: the law for the one that decides.
-pub record IsLeast (fs : List Fault) (f : Fault) : Type 0 where
-  pub among : (before : List Fault) × ((after : List Fault) × (fs ≡ before ++ f ∷ after))
-  pub least : AllByRecursion (λ g. precedes g f ≡ false) fs
-
--- the refusal that shows a fault
-abbrev pub refused : Layout → Fault → Refusal
-refused layout f = let t = token_of layout f.place in refusal_at f.code t.line t.column

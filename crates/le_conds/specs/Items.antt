@@ -1,6 +1,6 @@
 -- How conditions are cut into items: this project's profile.
 use Rattle.std.specs.Prelude.{◌≡◌, ℕ, zero, suc, ◌+◌, ◌-◌, ◌==◌, ◌&&◌, ◌||◌, Bool, true, false, if◌then◌else◌, codes, Option, None, Some, List, [], ◌∷◌, ◌++◌}
-use Rattle.le_base.specs.declared.stop.Span.{Span}
+use Rattle.le_layout.specs.declared.span.Span.{Span}
 use Rattle.le_layout.specs.declared.layout.Layout.{Layout}
 use Rattle.le_layout.specs.Words.{has_word}
 use Rattle.le_conds.specs.declared.item.Lead.{Lead}

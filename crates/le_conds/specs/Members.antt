@@ -1,6 +1,6 @@
 -- The members of the blocks in which items stand, and the tree of conditions: this project's profile.
 use Rattle.std.specs.Prelude.{ℕ, max, Bool, true, false, not, ◌&&◌, nat_lt, nat_le, if◌then◌else◌, List, [], ◌∷◌, ◌++◌, map}
-use Rattle.le_base.specs.declared.stop.Span.{Span}
+use Rattle.le_layout.specs.declared.span.Span.{Span}
 use Rattle.le_conds.specs.declared.entry.Join.{Join}
 use Rattle.le_conds.specs.declared.entry.Join.TheVariants.{Plain, Or}
 use Rattle.le_conds.specs.declared.entry.Opens.{Opens}

@@ -1,7 +1,7 @@
 -- The words that open a scope, and the beginnings of lines: this project's profile.
-use Rattle.std.specs.Prelude.{ℕ, zero, suc, ◌+◌, ◌-◌, ◌==◌, ◌&&◌, ◌||◌, Bool, true, false, not, if◌then◌else◌, nat_le, codes, Option, None, Some}
+use Rattle.std.specs.Prelude.{ℕ, zero, suc, ◌+◌, ◌-◌, ◌==◌, ◌&&◌, ◌||◌, Bool, true, false, not, if◌then◌else◌, nat_le, codes, List, [], ◌∷◌, Option, None, Some}
 use Rattle.le_layout.specs.declared.layout.Layout.{Layout}
-use Rattle.le_layout.specs.Words.{token_of, has_word}
+use Rattle.le_layout.specs.Words.{token_of, has_word, has_words, not_the_case, the_case, all_cases}
 
 -- a token is the first of its line where it is the first of all, or the token before it has another line
 unfoldable pub is_first : Layout → ℕ → Bool
@@ -18,15 +18,15 @@ indent layout k = (token_of layout (line_begin layout k)).column - 1
 
 -- `it is not the case that`
 unfoldable pub says_negation : Layout → ℕ → Bool
-says_negation layout k = has_word layout k (codes "it") && (has_word layout (k + 1) (codes "is") && (has_word layout (k + 2) (codes "not") && (has_word layout (k + 3) (codes "the") && (has_word layout (k + 4) (codes "case") && has_word layout (k + 5) (codes "that")))))
+says_negation layout k = has_words layout k not_the_case
 
 -- `for all cases in which`
 unfoldable pub says_for_all : Layout → ℕ → Bool
-says_for_all layout k = has_word layout k (codes "for") && (has_word layout (k + 1) (codes "all") && (has_word layout (k + 2) (codes "cases") && (has_word layout (k + 3) (codes "in") && has_word layout (k + 4) (codes "which"))))
+says_for_all layout k = has_words layout k all_cases
 
 -- `it is the case that`
 unfoldable pub says_marker : Layout → ℕ → Bool
-says_marker layout k = has_word layout k (codes "it") && (has_word layout (k + 1) (codes "is") && (has_word layout (k + 2) (codes "the") && (has_word layout (k + 3) (codes "case") && has_word layout (k + 4) (codes "that"))))
+says_marker layout k = has_words layout k the_case
 
 -- the tokens of a span begin with the words of a negation
 unfoldable pub opens_negation : Layout → ℕ → ℕ → Bool
@@ -46,11 +46,11 @@ is_fold_word layout k = has_word layout k (codes "sum") || (has_word layout k (c
 
 -- `is the sum of each`, or `number` or `greatest` in place of `sum`
 unfoldable pub says_each : Layout → ℕ → Bool
-says_each layout k = has_word layout k (codes "is") && (has_word layout (k + 1) (codes "the") && (is_fold_word layout (k + 2) && (has_word layout (k + 3) (codes "of") && has_word layout (k + 4) (codes "each"))))
+says_each layout k = has_words layout k (codes "is" ∷ codes "the" ∷ []) && (is_fold_word layout (k + 2) && has_words layout (k + 3) (codes "of" ∷ codes "each" ∷ []))
 
 -- `such that`
 unfoldable pub says_such_that : Layout → ℕ → Bool
-says_such_that layout k = has_word layout k (codes "such") && has_word layout (k + 1) (codes "that")
+says_such_that layout k = has_words layout k (codes "such" ∷ codes "that" ∷ [])
 
 -- the place after the words `is the sum of each` of content that begins here
 unfoldable pub ends_each : Layout → ℕ → ℕ → Bool

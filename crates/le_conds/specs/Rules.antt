@@ -1,18 +1,19 @@
 -- A rule's conclusion and conditions, and a query's conditions: this project's profile.
 use Rattle.std.specs.Prelude.{ℕ, ◌+◌, if◌then◌else◌, nat_lt, codes, List, [], ◌∷◌, ◌++◌, Option, None, Some, Result, Ok, Err}
-use Rattle.le_base.specs.declared.stop.Span.{Span}
+use Rattle.le_layout.specs.declared.span.Span.{Span}
 use Rattle.le_base.specs.declared.stop.Refusal.{Refusal}
 use Rattle.le_layout.specs.declared.token.Token.{Token}
 use Rattle.le_layout.specs.declared.layout.Layout.{Layout}
 use Rattle.le_layout.specs.Words.{tokens_of, is_this_word}
 use Rattle.le_conds.specs.declared.cond.Conds.{Conds}
 use Rattle.le_conds.specs.declared.entry.Entry.{Entry}
-use Rattle.le_conds.specs.declared.faults.Fault.{Fault}
+use Rattle.le_layout.specs.declared.fault.Fault.{Fault}
 use Rattle.le_conds.specs.Items.{span, items_of}
 use Rattle.le_conds.specs.Entries.{entries_of}
 use Rattle.le_conds.specs.Trees.{flat}
 use Rattle.le_conds.specs.Members.{tree_of}
-use Rattle.le_conds.specs.Faults.{conclusion_faults, condition_faults, least_of, refused}
+use Rattle.le_layout.specs.Fault.{refusal_of}
+use Rattle.le_conds.specs.Faults.{conclusion_faults, condition_faults, least_of}
 
 -- the first `if` of tokens that stand from this place on, or their end
 abbrev pub if_from : Layout → ℕ → List Token → ℕ
@@ -26,7 +27,7 @@ first_if layout sentence = if_from layout sentence.from (tokens_of layout senten
 -- a value, where there is no fault
 abbrev pub unless_fault : {X : Type 0} → Layout → Option Fault → X → Result X Refusal
 unless_fault layout None x = Ok x
-unless_fault layout (Some f) x = Err (refused layout f)
+unless_fault layout (Some f) x = Err (refusal_of layout f)
 
 -- what the blocks see of the conditions among these tokens; at the place is shown that their first item is empty
 abbrev pub conditions_among : Layout → ℕ → ℕ → ℕ → List Entry

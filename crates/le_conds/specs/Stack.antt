@@ -11,7 +11,7 @@ use Rattle.le_conds.specs.declared.entry.Join.TheVariants.{Or}
 use Rattle.le_conds.specs.declared.entry.Opens.{Opens}
 use Rattle.le_conds.specs.declared.entry.Opens.TheVariants.{Nothing, Negation, ForAll, Second, Stray, Gather}
 use Rattle.le_conds.specs.declared.entry.Entry.{Entry}
-use Rattle.le_conds.specs.declared.faults.Fault.{Fault}
+use Rattle.le_layout.specs.declared.fault.Fault.{Fault}
 use Rattle.le_conds.specs.declared.blocks.Waiting.{Waiting}
 use Rattle.le_conds.specs.Trees.{Tree, sentence, cond, flat, at_of}
 use Rattle.le_conds.specs.Entries.{entry, opens_of, entries_of}

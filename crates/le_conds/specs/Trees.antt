@@ -1,6 +1,6 @@
 -- Trees of conditions, and their conditions in preorder: this project's profile.
 use Rattle.std.specs.Prelude.{◌≡◌, ℕ, suc, ◌≤◌, List, [], ◌∷◌, ◌++◌}
-use Rattle.le_base.specs.declared.stop.Span.{Span}
+use Rattle.le_layout.specs.declared.span.Span.{Span}
 use Rattle.le_base.specs.declared.stop.FoldKind.{FoldKind}
 use Rattle.le_conds.specs.declared.cond.CondKind.{CondKind}
 use Rattle.le_conds.specs.declared.cond.CondKind.TheVariants as kinds

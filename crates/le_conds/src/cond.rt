@@ -1,7 +1,7 @@
 ghost use Rattle.std.specs.Prelude.{◌≡◌};
 
-use le_base::{FoldKind, Span};
-use std::marker::Model;
+use le_base::{FoldKind, List};
+use le_layout::Span;
 
 /// What a condition is, with the number of conditions below it.
 #[derive(Clone, Copy, Debug)]
@@ -37,43 +37,8 @@ pub struct Cond {
     pub at: u32,
 }
 
-/// Conditions one after another, which contracts see as a list.
-#[derive(Debug, Drop)]
-pub struct Nodes {
-    items: Vec<Cond>,
-}
-
-impl Model for Nodes {
-    ghost use Rattle.std.specs.Prelude.{List};
-    ghost use Rattle.le_conds.specs.declared.cond.Cond.{Cond};
-
-    ghost Value = { List Cond };
-
-    ghost view = { λ n. n.items.items };
-}
-
-impl Nodes {
-    /// The conditions of a vector.
-    pub fn from_vec(items: Vec<Cond>) -> Self
-        ensures { result ≡ items.items }
-    {
-        Nodes { items }
-    }
-
-    /// The vector of the conditions.
-    pub fn into_vec(self) -> Vec<Cond>
-        ensures { result.items ≡ self }
-    {
-        self.items
-    }
-
-    /// The conditions, borrowed.
-    pub fn as_slice(&self) -> &[Cond]
-        ensures { result.now ≡ self.now }
-    {
-        self.items.as_slice()
-    }
-}
+/// Conditions one after another.
+pub type Nodes = List<Cond>;
 
 /// The conditions of a rule or of a query: one tree in preorder.
 #[derive(Debug, Drop)]

@@ -8,8 +8,8 @@ ghost use Rattle.le_conds.specs.Stack.{entries_seen};
 use crate::entry::{Entry, Join, Opens};
 use crate::item::{Item, Lead};
 use crate::openers::{gather_seen, indent, opens_for_all, opens_negation};
-use le_base::{FoldKind, Span};
-use le_layout::Layout;
+use le_base::FoldKind;
+use le_layout::{Layout, Span};
 use std::alloc::{AllocError, Global};
 
 /// What the blocks see of the items of conditions, the first of which is shown at this place where it is

@@ -1,4 +1,5 @@
-use le_base::{FoldKind, Span};
+use le_base::FoldKind;
+use le_layout::Span;
 
 /// How an item of the conditions is joined to the one before it.
 #[derive(Clone, Copy, Debug)]

@@ -2,66 +2,19 @@ ghost use Rattle.std.specs.Prelude.{◌≡◌, ◌≤◌, length, All, Some};
 ghost use Rattle.le_layout.specs.Layout.{IsLayout};
 ghost use Rattle.le_conds.specs.Bounds.{IsEntryOver};
 ghost use Rattle.le_conds.specs.Members.{is_empty as is_empty_span};
-ghost use Rattle.le_conds.specs.Faults.{fault_if, is_long as is_long_span, begins_scope as begins_scope_in, begins_opener as begins_opener_in, part_faults as part_faults_of, conclusion_faults as conclusion_faults_of, precedes as precedes_fault, sooner as sooner_of, least_onto, refused as refused_of};
+ghost use Rattle.le_conds.specs.Faults.{fault_if, is_long as is_long_span, begins_scope as begins_scope_in, begins_opener as begins_opener_in, part_faults as part_faults_of, conclusion_faults as conclusion_faults_of, least_onto};
 
 use crate::entry::Entry;
 use crate::openers::{gather_seen, opens_for_all, opens_negation};
-use le_base::{Code, Refusal, Span};
-use le_layout::Layout;
-use std::alloc::Global;
-
-/// A cause to refuse a sentence.
-#[derive(Clone, Copy, Debug)]
-pub struct Fault {
-    /// The cause.
-    pub code: Code,
-    /// The token at which it stands, counted from 0.
-    pub place: u32,
-}
-
-impl Fault {
-    /// The refusal that shows the fault. Where there is no such token, its line and column are 0.
-    pub fn refusal(self, alloc: Global, layout: &Layout) -> Refusal
-        ensures { result ≡ refused_of layout.now self }
-    {
-        let tokens = layout.tokens.as_slice();
-        let mut line = 0;
-        let mut column = 0;
-        if (self.place as usize) < tokens.len() {
-            line = tokens[self.place as usize].line;
-            column = tokens[self.place as usize].column;
-        }
-        Refusal::at(alloc, self.code, line, column)
-    }
-}
-
-/// Whether a fault stands at a lesser place than another, or at the same place with a lesser number.
-fn precedes(fault: Fault, other: Fault) -> bool
-    ensures { result ≡ precedes_fault fault other }
-{
-    fault.place < other.place
-        || fault.place == other.place && fault.code.number() < other.code.number()
-}
-
-/// The fault that decides among one and those that were found after it.
-fn sooner(fault: Fault, least: Option<Fault>) -> Option<Fault>
-    ensures { result ≡ sooner_of fault least }
-{
-    let Some(found) = least else {
-        return Some(fault);
-    };
-    if precedes(found, fault) {
-        return least;
-    }
-    Some(fault)
-}
+use le_base::{Code, MOST_SENTENCE_TOKENS};
+use le_layout::{Fault, Layout, Span};
 
 /// The fault that decides among those that were found and, if something is so, one that stands before them.
 pub fn sooner_if(is_so: bool, code: Code, place: u32, least: Option<Fault>) -> Option<Fault>
     ensures { result ≡ least_onto (fault_if is_so code place) least }
 {
     if is_so {
-        return sooner(Fault { code, place }, least);
+        return Fault::at(code, place).sooner(least);
     }
     least
 }
@@ -77,7 +30,7 @@ pub fn is_empty(span: Span) -> bool
 fn is_long(span: Span) -> bool
     ensures { result ≡ is_long_span span }
 {
-    200 < span.to.saturating_sub(span.from)
+    MOST_SENTENCE_TOKENS < span.to.saturating_sub(span.from)
 }
 
 /// Whether some tokens begin with the words of a negation or of a `for all`.

@@ -1,7 +1,7 @@
 ghost use Rattle.std.specs.Prelude.{◌≡◌, ◌+◌, ◌^◌, ◌<◌};
 ghost use Rattle.le_conds.specs.Items.{is_connective as is_connective_lead, is_marker as is_marker_lead, opened, closed};
 
-use le_base::Span;
+use le_layout::Span;
 
 /// How an item of the conditions begins.
 #[derive(Clone, Copy, Debug)]

@@ -3,12 +3,13 @@ ghost use Rattle.le_layout.specs.declared.layout.Layout.{Layout};
 ghost use Rattle.le_layout.specs.Words.{tokens_of};
 ghost use Rattle.le_conds.specs.declared.item.Item.{Item};
 ghost use Rattle.le_conds.specs.declared.entry.Entry.{Entry};
-ghost use Rattle.le_conds.specs.declared.faults.Fault.{Fault};
+ghost use Rattle.le_layout.specs.declared.fault.Fault.{Fault};
 ghost use Rattle.le_conds.specs.Items.{span, items_of, begins_item, BeginsAt};
 ghost use Rattle.le_conds.specs.Entries.{entries_of};
 ghost use Rattle.le_conds.specs.Trees.{Tree};
 ghost use Rattle.le_conds.specs.Members.{tree_of};
-ghost use Rattle.le_conds.specs.Faults.{shape_faults, least_of, IsLeast};
+ghost use Rattle.le_layout.specs.Fault.{IsLeast};
+ghost use Rattle.le_conds.specs.Faults.{shape_faults, least_of};
 ghost use Rattle.le_conds.specs.Blocks.{IsBlock, AreMatched};
 
 /// The items' contents with their connectives, one after another, are the tokens of the conditions, and an

@@ -2,7 +2,7 @@ ghost use Rattle.std.specs.Prelude.{◌≡◌, ◌+◌, ◌<◌, ◌≤◌, leng
 ghost use Rattle.le_layout.specs.Layout.{IsLayout};
 ghost use Rattle.le_conds.specs.Openers.{is_first as is_first_of, indent as indent_of, says_negation as says_negation_at, says_for_all as says_for_all_at, says_marker as says_marker_at, opens_negation as opens_negation_in, opens_for_all as opens_for_all_in, opens_marker as opens_marker_in, is_fold_word as is_fold_word_at, says_each as says_each_at, says_such_that as says_such_that_at, ends_each as ends_each_at, ends_such_that as ends_such_that_at, or_here as or_here_of, each_end, gather_end as gather_end_of, such_that_end, is_place as is_place_of};
 
-use le_layout::Layout;
+use le_layout::{ALL_CASES, Layout, NOT_THE_CASE, THE_CASE};
 
 /// Whether a token is the first of its line.
 #[tactic(auto, unfolding(crate::specs::Openers::is_first))]
@@ -43,12 +43,7 @@ fn says_negation(layout: &Layout, k: u32) -> bool
     requires inside { k + 6 ≤ length layout.now.tokens }
     ensures { result ≡ says_negation_at layout.now k }
 {
-    layout.has_word(k, "it")
-        && layout.has_word(k + 1, "is")
-        && layout.has_word(k + 2, "not")
-        && layout.has_word(k + 3, "the")
-        && layout.has_word(k + 4, "case")
-        && layout.has_word(k + 5, "that")
+    layout.has_words(k, &NOT_THE_CASE)
 }
 
 /// Whether these tokens begin with the words of a `for all`.
@@ -69,11 +64,7 @@ fn says_for_all(layout: &Layout, k: u32) -> bool
     requires inside { k + 5 ≤ length layout.now.tokens }
     ensures { result ≡ says_for_all_at layout.now k }
 {
-    layout.has_word(k, "for")
-        && layout.has_word(k + 1, "all")
-        && layout.has_word(k + 2, "cases")
-        && layout.has_word(k + 3, "in")
-        && layout.has_word(k + 4, "which")
+    layout.has_words(k, &ALL_CASES)
 }
 
 /// Whether these tokens begin with the words of a marker, which stand together on one line.
@@ -96,11 +87,7 @@ fn says_marker(layout: &Layout, k: u32) -> bool
     requires inside { k + 5 ≤ length layout.now.tokens }
     ensures { result ≡ says_marker_at layout.now k }
 {
-    layout.has_word(k, "it")
-        && layout.has_word(k + 1, "is")
-        && layout.has_word(k + 2, "the")
-        && layout.has_word(k + 3, "case")
-        && layout.has_word(k + 4, "that")
+    layout.has_words(k, &THE_CASE)
 }
 
 /// What was found of a gather's opener.
@@ -201,11 +188,9 @@ fn says_each(layout: &Layout, k: u32) -> bool
     requires inside { k + 5 ≤ length layout.now.tokens }
     ensures { result ≡ says_each_at layout.now k }
 {
-    layout.has_word(k, "is")
-        && layout.has_word(k + 1, "the")
+    layout.has_words(k, &["is", "the"])
         && is_fold_word(layout, k + 2)
-        && layout.has_word(k + 3, "of")
-        && layout.has_word(k + 4, "each")
+        && layout.has_words(k + 3, &["of", "each"])
 }
 
 /// Whether a token is a fold's word.
@@ -235,5 +220,5 @@ fn says_such_that(layout: &Layout, k: u32) -> bool
     requires inside { k + 2 ≤ length layout.now.tokens }
     ensures { result ≡ says_such_that_at layout.now k }
 {
-    layout.has_word(k, "such") && layout.has_word(k + 1, "that")
+    layout.has_words(k, &["such", "that"])
 }

@@ -5,8 +5,9 @@ ghost use Rattle.le_conds.specs.Stack.{stacked, scope_of};
 
 use crate::blocks::{Waiting, deepest, is_marker};
 use crate::entry::{Entry, Join, Opens};
-use crate::faults::{Fault, is_empty, sooner_if};
+use crate::faults::{is_empty, sooner_if};
 use le_base::Code;
+use le_layout::Fault;
 
 /// Whether an item begins with a connective.
 fn is_connective(lead: Join) -> bool

@@ -11,11 +11,11 @@ ghost use Rattle.le_conds.specs.Rules.{first_if as first_if_of, conditions_among
 use crate::cutting::items;
 use crate::entries::entries;
 use crate::entry::Entry;
-use crate::faults::{Fault, conclusion_fault, part_fault};
+use crate::faults::{conclusion_fault, part_fault};
 use crate::trees::{Found, tree};
 use crate::{Conds, Nodes};
-use le_base::{Span, Stop};
-use le_layout::Layout;
+use le_base::Stop;
+use le_layout::{Fault, Layout, Span};
 use std::alloc::{AllocError, Global};
 
 /// The conclusion and the conditions of a rule's sentence, which has a token. There are no conditions

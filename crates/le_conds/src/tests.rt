@@ -1,8 +1,8 @@
 use crate::{
     Cond, CondKind, Conds, Nodes, conditions, least_decides, nothing_lost, one_tree, split_rule,
 };
-use le_base::{FoldKind, Refusal, Span, Stop};
-use le_layout::scan;
+use le_base::{FoldKind, Refusal, Stop};
+use le_layout::{Span, scan};
 use std::alloc::{AllocError, Global};
 use std::test::Fail;
 
@@ -85,7 +85,7 @@ fn outcome(alloc: Global, text: &str, is_query: bool) -> Result<String, AllocErr
     }
 }
 
-const RULES: [(&str, &str); 26] = [
+const RULES: [(&str, &str); 28] = [
     ("a is b", "0..3"),
     ("a is b IF c is d", "0..3 4..7@4"),
     ("a if b if c", "0..1 2..5@2"),
@@ -148,9 +148,18 @@ const RULES: [(&str, &str); 26] = [
         "t if b is the sum of each c such that d\n or e",
         "0..1 sum 2..3 8..9@2 or 2@11 11..12@11 13..14@13",
     ),
+    // the words of a marker after a connective and after an opener
+    (
+        "a if b\nand it is the case that c",
+        "0..1 and 2@2 2..3@2 4..10@4",
+    ),
+    (
+        "a if it is not the case that it is the case that b",
+        "0..1 not@2 8..14@8",
+    ),
 ];
 
-const FAULTS: [(&str, &str); 37] = [
+const FAULTS: [(&str, &str); 46] = [
     ("if b", "BadIndent 1:1"),
     ("a if", "BadIndent 1:3"),
     ("a if\nand b", "BadIndent 1:3"),
@@ -236,6 +245,36 @@ const FAULTS: [(&str, &str); 37] = [
         "a if b\n it is the case that c\nand d\nor e",
         "BadIndent 2:2",
     ),
+    // the place of an opener is its own first token, and not its connective
+    (
+        "a if b\nand it is not the case that\nand c",
+        "BadIndent 2:5",
+    ),
+    (
+        "a if b\nand c is the sum of each d such that",
+        "BadIndent 2:5",
+    ),
+    ("a if b\nand for all cases in which c", "BadIndent 2:5"),
+    // an opener that follows another one in its item takes no marker
+    (
+        "a if for all cases in which\n it is not the case that for all cases in which b\nit is the case that c",
+        "NegationScope 2:26",
+    ),
+    // an item that is less deep than its block isn't compared
+    ("  a if b\n  and c\n or d\n  and e", "BadIndent 3:2"),
+    ("a if\nit is the case that b", "BadIndent 1:3"),
+    (
+        "a if for all cases in which b\nit is the case that\n and c",
+        "BadIndent 3:2",
+    ),
+    (
+        "a if b is the sum of each c such that\n or d",
+        "BadIndent 2:2",
+    ),
+    (
+        "a if it is not the case that\n   b\n  and c",
+        "BadIndent 3:3",
+    ),
 ];
 
 const QUERIES: [(&str, &str); 6] = [
@@ -274,25 +313,41 @@ fn queries(rt: HostRuntime) -> Result<(), Fail> {
     Ok(())
 }
 
-// As many words, and then an `if` and as many words.
-fn long_rule(alloc: Global, before: usize, after: usize) -> Result<String, AllocError> {
-    let mut text = String::new(alloc);
-    for _ in 0..before {
-        text.push_str("a ")?;
-    }
-    text.push_str("if")?;
-    for _ in 0..after {
+// A text, as many words, and another text.
+fn long_rule(alloc: Global, start: &str, count: usize, end: &str) -> Result<String, AllocError> {
+    let mut text = String::from_str(alloc, start)?;
+    for _ in 0..count {
         text.push_str(" b")?;
     }
+    text.push_str(end)?;
     outcome(alloc, text.as_str(), false)
 }
 
+const NEGATION: &str = "a if b\nand it is not the case that";
+
+const MARKER: &str = "a if for all cases in which b\nit is the case that";
+
+// Texts with as many words between them, and what they are. The words of an opener and of a marker count, and a
+// connective doesn't.
+const LONG: [(&str, usize, &str, &str); 10] = [
+    ("b", 199, "", "0..200"),
+    ("b", 200, "", "LongSentence 1:1"),
+    ("b", 199, " if c", "0..200 201..202@201"),
+    ("b", 200, " if c", "LongSentence 1:1"),
+    ("a if", 200, "", "0..1 2..202@2"),
+    ("a if", 201, "", "LongSentence 1:6"),
+    (NEGATION, 194, "", "0..1 and 2@2 2..3@2 not@4 10..204@10"),
+    (NEGATION, 195, "", "LongSentence 2:5"),
+    (MARKER, 195, "", "0..1 for-all@2 7..8@7 13..208@13"),
+    (MARKER, 196, "", "LongSentence 2:1"),
+];
+
 #[test]
 fn long_parts(rt: HostRuntime) -> Result<(), Fail> {
-    let alloc = rt.alloc();
-    assert_eq!(rt; long_rule(alloc, 200, 200)?.as_str(), "0..200 201..401@201");
-    assert_eq!(rt; long_rule(alloc, 201, 1)?.as_str(), "LongSentence 1:1");
-    assert_eq!(rt; long_rule(alloc, 1, 201)?.as_str(), "LongSentence 1:6");
+    for (start, count, end, expected) in LONG {
+        let found = long_rule(rt.alloc(), start, count, end)?;
+        assert_eq!(rt; found.as_str(), expected);
+    }
     Ok(())
 }
 

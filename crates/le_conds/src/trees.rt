@@ -6,10 +6,9 @@ ghost use Rattle.le_conds.specs.Stack.{stacked, turned, kind_by as kind_by_lead,
 
 use crate::blocks::{Waiting, count_marker, count_scope, deepest, greater};
 use crate::entry::{Entry, Join, Opens};
-use crate::faults::Fault;
 use crate::shape::{block_fault, is_bare, item_fault};
 use crate::{Cond, CondKind};
-use le_base::Span;
+use le_layout::{Fault, Span};
 use std::alloc::{AllocError, Global};
 
 /// What is found of the items of conditions: the fault that decides, and the conditions of their tree.

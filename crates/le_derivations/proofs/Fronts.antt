@@ -10,7 +10,7 @@ use Rattle.le_proofs.specs.Replay.{behind}
 pub last-first : {X : Type 0} (xs : List X) (x : X) → reverse (xs ++ x ∷ []) ≡ x ∷ reverse xs
 last-first xs x = reverse-append xs (x ∷ [])
 
--- what is behind some parts, and behind those that are left once one node is passed
+-- what is after some parts, and after those that are left once one node is passed
 pub front-less : (nodes : List Node) (at k parts p more : ℕ) (node : Node) → at ≡ suc k → parts ≡ suc p → k < length nodes → node ≡ get_or nodes k node → more ≡ p + parts_of node
     → behind more (reverse (take k nodes)) ≡ behind parts (reverse (take at nodes))
 front-less nodes at k parts p more node place count inside read rest =

@@ -27,7 +27,7 @@ nodes-append (p ∷ ps) qs = ap (λ ns. proof_nodes p ++ ns) (nodes-append ps qs
 pub nodes-split : (place : ℕ) (ps : List Proof) → nodes_of (take place ps) ++ nodes_of (drop place ps) ≡ nodes_of ps
 nodes-split place ps = sym (nodes-append (take place ps) (drop place ps)) ∙ ap nodes_of (take-append-drop place ps)
 
--- what stands behind the first proofs
+-- what stands after the first proofs
 pub nodes-behind : (place : ℕ) (ps : List Proof) → behind place (nodes_of ps) ≡ nodes_of (drop place ps)
 nodes-behind zero ps = refl
 nodes-behind (suc place) [] = refl
@@ -58,7 +58,7 @@ node-agree by with agree Ungathered = refl
 node-agree by with agree Success = refl
 node-agree by with agree Dead = refl
 
--- the proof that a step gives, before those behind it
+-- the proof that a step gives, before those after it
 module _ (by : ℕ → Tree) (ps : List Proof) where
   abbrev Joins : Reason → Node → List Node → Type 0
   Joins reason node below =

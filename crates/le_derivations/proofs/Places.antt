@@ -1,4 +1,4 @@
--- The nodes of a proof are as many as their counts say: what stands behind them is what is behind one part.
+-- The nodes of a proof are as many as their counts say: what stands after them is what is after one part.
 use Rattle.std.proofs.Common.{◌≡◌, ℕ, suc, ◌+◌, List, ◌∷◌, ◌++◌, length, ap, ◌∙◌, append_assoc, arith}
 use Rattle.le_proofs.specs.declared.node.Node.{Node}
 use Rattle.le_proofs.specs.declared.node.Node.TheVariants.{Branch as Branch_node}

@@ -98,7 +98,7 @@ ungathered-walk path sub =
     walks (map (leaf_along path) (leaves_of (begun folded (course_of sub).events ++ []))) [] (Ungathered ∷ visit_nodes sub) ((Ungathered ∷ visit_nodes sub) ++ []) Done (course_of sub).left
     (ap (map (leaf_along path)) (folded-leaves (course_of sub).events [])) (sym (append-nil (Ungathered ∷ visit_nodes sub)))
 
--- a branch and those behind it
+-- a branch and those after it
 each-walk : (path : List Step) (child : Child) (step : Step) (t : SearchTree) (more : ℕ → Branches) (e : Next) → e ≡ (course_of t).ending
     → along path (walk_each (branch_before e child step t more)) ≡ thens e (prefixed [] (Branch child.clause ∷ []) (below path step t)) (λ k. along path (walk_each (more k)))
 each-walk path child step t more Done same =

@@ -6,6 +6,7 @@ ghost use Rattle.le_derivations.specs.Paths.{IsStep, AreProofs, IsPartWay, count
 use crate::changing::{Change, changed_node};
 use crate::path::PathStep;
 use crate::scopes::parts_of;
+use le_base::Copied;
 use le_proofs::Node;
 use le_subst::Subst;
 use std::alloc::{AllocError, Global};
@@ -55,7 +56,7 @@ fn add_step(alloc: Global, proving: &mut Proving, step: &PathStep) -> Result<(),
     Ok(())
 }
 
-// How many of some proofs, behind those before a place, stand below a node.
+// How many of some proofs, after those before a place, stand below a node.
 fn taken_proofs(proofs: usize, place: usize, node: &Node) -> usize
     ensures { result ≡ min (count_of node.now) (proofs - place) }
 {

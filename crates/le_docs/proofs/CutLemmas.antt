@@ -1,12 +1,11 @@
 -- One step of the walks that cut a section into sentences and join the words of a name.
 use Rattle.std.proofs.Common.{◌≡◌, ℕ, ◌+◌, ◌-◌, ◌<◌, ◌≤◌, Bool, true, false, cond, List, [], ◌∷◌, ◌++◌, length, get_or, slice_range, append_assoc, ◌⊎◌, ⊎_elim, sym, ap, ◌∙◌, arith}
 use Rattle.std.proofs.lemmas.Bool.{cond-false, ne_eqb}
-use Rattle.le_base.specs.declared.stop.Span.{Span}
+use Rattle.le_layout.specs.declared.span.Span.{Span}
 use Rattle.le_layout.specs.declared.layout.Layout.{Layout}
 use Rattle.le_layout.specs.Layout.{no_token, token_text}
 use Rattle.le_docs.specs.Kinds.{ends_sentence}
 use Rattle.le_docs.specs.Cuts.{Parts, last, part, longer, parts_of, parts_in, some_at, spans_at, open_at}
-use Rattle.le_docs.specs.Sections.{spaced, joined}
 use Rattle.le_layout.proofs.SpanLemmas.{slice_more, slice_none}
 
 longer_longer : (n m : ℕ) (p : Parts) → m ≡ n + 1 → longer n (longer 1 p) ≡ longer m p
@@ -65,22 +64,3 @@ more_spans xs zs ys rest all e h = ap (λ v. v ++ rest) e ∙ append_assoc xs ys
 
 pub all_spans : (xs zs ys all : List Span) → zs ≡ xs ++ ys → xs ++ ys ≡ all → zs ≡ all
 all_spans xs zs ys all e h = e ∙ h
-
--- ---- the words of a name
-
-pub spaced_step : (l : Layout) (k to : ℕ) → k < to → to ≤ length l.tokens → spaced l (slice_range l.tokens k to) ≡ 32 ∷ (token_text l k ++ spaced l (slice_range l.tokens (k + 1) to))
-unfolding spaced
-spaced_step l k to low high = ap (spaced l) (slice_more l.tokens k to no_token low high)
-
-pub spaced_end : (l : Layout) (k to : ℕ) → to ≤ k → spaced l (slice_range l.tokens k to) ≡ []
-unfolding spaced
-spaced_end l k to h = ap (spaced l) (slice_none l.tokens k to h)
-
-pub joined_step : (l : Layout) (k to : ℕ) → k < to → to ≤ length l.tokens → joined l (slice_range l.tokens k to) ≡ token_text l k ++ spaced l (slice_range l.tokens (k + 1) to)
-joined_step l k to low high = ap (joined l) (slice_more l.tokens k to no_token low high)
-
-pub joined_none : (l : Layout) (k to : ℕ) → to ≤ k → joined l (slice_range l.tokens k to) ≡ []
-joined_none l k to h = ap (joined l) (slice_none l.tokens k to h)
-
-pub word_more : (a t rest s all : List ℕ) → s ≡ (a ++ 32 ∷ []) ++ t → a ++ (32 ∷ (t ++ rest)) ≡ all → s ++ rest ≡ all
-word_more a t rest s all e h = ap (λ v. v ++ rest) e ∙ append_assoc (a ++ 32 ∷ []) t rest ∙ append_assoc a (32 ∷ []) (t ++ rest) ∙ h

@@ -4,7 +4,7 @@ use Rattle.le_base.specs.declared.code.Code.TheVariants.{UnknownHeader, NoStop}
 use Rattle.le_layout.specs.declared.token.Kind.{Kind}
 use Rattle.le_layout.specs.declared.token.Kind.TheVariants.{Word, Comma, Stop}
 use Rattle.le_layout.specs.declared.token.Token.{Token}
-use Rattle.le_docs.specs.declared.faults.Fault.{Fault}
+use Rattle.le_layout.specs.declared.fault.Fault.{Fault}
 use Rattle.le_docs.specs.Faults.{least_from}
 use Rattle.le_docs.specs.Cuts.{last, part, parts_of, spans_at, open_at}
 
@@ -12,7 +12,7 @@ token : Kind → Token
 token kind = record { kind = kind; from = 0; to = 0; line = 1; column = 1 }
 
 fault : ℕ → Fault
-fault place = record { code = NoStop; place = place; line = 1; column = 1 }
+fault place = record { code = NoStop; place = place }
 
 -- a comma ends a template and no sentence
 commas : parts_of true (token Word ∷ token Comma ∷ token Word ∷ []) ≡ part 1 (last 1)

@@ -8,7 +8,7 @@ use Rattle.le_layout.specs.declared.token.Line.{Line}
 use Rattle.le_layout.specs.declared.layout.Layout.{Layout}
 use Rattle.le_layout.specs.Layout.{no_token, IsLineOver}
 use Rattle.le_docs.specs.Bounds.{IsHeadOver}
-use Rattle.le_docs.specs.declared.faults.Fault.{Fault}
+use Rattle.le_layout.specs.declared.fault.Fault.{Fault}
 use Rattle.le_docs.specs.declared.headers.Head.{Head}
 use Rattle.le_layout.specs.Words.{is_word, is_colon}
 use Rattle.le_docs.specs.Faults.{sooner, least_from}

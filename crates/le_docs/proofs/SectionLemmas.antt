@@ -5,15 +5,16 @@ use Rattle.std.specs.List.{list_any}
 use Rattle.std.specs.Str.{bytes_eq}
 use mathlib.Core.Bool.{not}
 use Rattle.le_base.specs.declared.code.Code.TheVariants.{SameName}
-use Rattle.le_base.specs.declared.stop.Span.{Span}
+use Rattle.le_layout.specs.declared.span.Span.{Span}
 use Rattle.le_layout.specs.declared.layout.Layout.{Layout}
 use Rattle.le_docs.specs.declared.doc.Section.{Section}
 use Rattle.le_docs.specs.declared.doc.SectionKind.{SectionKind}
 use Rattle.le_docs.specs.declared.doc.SectionKind.TheVariants as kinds
-use Rattle.le_docs.specs.declared.faults.Fault.{Fault}
+use Rattle.le_layout.specs.declared.fault.Fault.{Fault}
 use Rattle.le_docs.specs.declared.headers.Head.{Head}
 use Rattle.le_docs.specs.Kinds.{same_kind}
-use Rattle.le_docs.specs.Faults.{fault_at, least_from}
+use Rattle.le_layout.specs.Fault.{fault_at}
+use Rattle.le_docs.specs.Faults.{least_from}
 use Rattle.le_docs.specs.Headers.{heads_of, lines_faults, first_faults}
 use Rattle.le_docs.specs.Cuts.{parts_in, spans_at, open_at}
 use Rattle.le_docs.specs.Sections.{parts_under, target_faults, open_faults, query_faults, has_name, all_faults, all_sections, decided, sections_of, section_at, section_faults, next_at, sections_under, faults_under, name_faults, names_faults}
@@ -55,10 +56,10 @@ pub names_end : (l : Layout) (kind : SectionKind) (earlier ss : List Section) (l
 unfolding names_faults
 names_end l kind earlier ss least e = ap (λ xs. least_from least (names_faults l kind earlier xs)) e
 
-pub name_fault_is : (l : Layout) (kind : SectionKind) (earlier : List Section) (s : Section) (a h : Bool) → same_kind s.kind kind ≡ a → has_name kind s.name earlier ≡ h → name_faults l kind earlier s ≡ cond (a && h) (fault_at l SameName s.at ∷ []) []
+pub name_fault_is : (l : Layout) (kind : SectionKind) (earlier : List Section) (s : Section) (a h : Bool) → same_kind s.kind kind ≡ a → has_name kind s.name earlier ≡ h → name_faults l kind earlier s ≡ cond (a && h) (fault_at SameName s.at ∷ []) []
 name_fault_is l kind earlier s a h e f =
-    ap (λ b. cond (b && has_name kind s.name earlier) (fault_at l SameName s.at ∷ []) []) e
-    ∙ ap (λ b. cond (a && b) (fault_at l SameName s.at ∷ []) []) f
+    ap (λ b. cond (b && has_name kind s.name earlier) (fault_at SameName s.at ∷ []) []) e
+    ∙ ap (λ b. cond (a && b) (fault_at SameName s.at ∷ []) []) f
 
 swap_or : (a b r : Bool) → (a || (b || r)) ≡ (b || (a || r))
 swap_or true true r = refl
@@ -120,5 +121,5 @@ all_least l heads secs a d n q h s fa fd fn fq =
       s',
     )
 
-pub decided_as : (l : Layout) (o q : Option Fault) (secs : List Section) → (q ≡ least_from None (all_faults l)) × (secs ≡ all_sections l) → q ≡ o → sections_of l ≡ decided o secs
-decided_as l o q secs h e = ap (λ x. decided x (all_sections l)) (sym h.0 ∙ e) ∙ ap (decided o) (sym h.1)
+pub decided_as : (l : Layout) (o q : Option Fault) (secs : List Section) → (q ≡ least_from None (all_faults l)) × (secs ≡ all_sections l) → q ≡ o → sections_of l ≡ decided l o secs
+decided_as l o q secs h e = ap (λ x. decided l x (all_sections l)) (sym h.0 ∙ e) ∙ ap (decided l o) (sym h.1)

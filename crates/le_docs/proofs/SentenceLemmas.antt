@@ -3,7 +3,7 @@ use Rattle.std.proofs.Common.{◌≡◌, ℕ, zero, suc, ◌+◌, ◌-◌, ◌<�
 use Rattle.std.specs.List.{All, filter}
 use Rattle.std.proofs.lemmas.Bool.{cases_order, cases_lt, eq-eqb, ne_eqb}
 use Rattle.std.proofs.lemmas.List.Elements.{All-nil, All-cons}
-use Rattle.le_base.specs.declared.stop.Span.{Span}
+use Rattle.le_layout.specs.declared.span.Span.{Span}
 use Rattle.le_layout.specs.declared.layout.Layout.{Layout}
 use Rattle.le_layout.proofs.SpanLemmas.{slice_none}
 use Rattle.le_docs.specs.Cuts.{Parts, last, part, longer, parts_of, parts_in, some_at, spans_at, open_at}

@@ -1,6 +1,6 @@
 -- Where headers and sections stand: this project's profile.
 use Rattle.std.specs.Prelude.{ℕ, ◌<◌, ◌≤◌, All}
-use Rattle.le_base.specs.declared.stop.Span.{Span}
+use Rattle.le_layout.specs.declared.span.Span.{Span}
 use Rattle.le_docs.specs.declared.doc.Section.{Section}
 use Rattle.le_docs.specs.declared.headers.Head.{Head}
 

@@ -9,9 +9,9 @@ use Rattle.le_layout.specs.declared.layout.Layout.{Layout}
 use Rattle.le_layout.specs.Words.{is_word, is_colon, has_word}
 use Rattle.le_docs.specs.declared.doc.SectionKind.{SectionKind}
 use Rattle.le_docs.specs.declared.doc.SectionKind.TheVariants as kinds
-use Rattle.le_docs.specs.declared.faults.Fault.{Fault}
+use Rattle.le_layout.specs.declared.fault.Fault.{Fault}
 use Rattle.le_docs.specs.declared.headers.Head.{Head}
-use Rattle.le_docs.specs.Faults.{fault_at}
+use Rattle.le_layout.specs.Fault.{fault_at}
 
 -- the first colon of tokens that stand from this place on, or their end
 abbrev pub colon_from : ℕ → List Token → ℕ
@@ -83,7 +83,7 @@ rest_begin line (Some head) = head.body
 
 -- a line with this header has a colon that ends no header
 abbrev pub line_faults : Layout → Line → Option Head → List Fault
-line_faults layout line head = if nat_lt (first_colon layout (rest_begin line head) line.to) line.to then fault_at layout UnknownHeader line.from ∷ [] else []
+line_faults layout line head = if nat_lt (first_colon layout (rest_begin line head) line.to) line.to then fault_at UnknownHeader line.from ∷ [] else []
 
 -- the faults of lines
 unfoldable pub lines_faults : Layout → List Line → List Fault
@@ -93,4 +93,4 @@ lines_faults layout (line ∷ lines) = line_faults layout line (head_of layout l
 -- the first line is no header
 abbrev pub first_faults : Layout → List Line → List Fault
 first_faults layout [] = []
-first_faults layout (line ∷ lines) = if is_some (head_of layout line) then [] else fault_at layout UnknownHeader line.from ∷ []
+first_faults layout (line ∷ lines) = if is_some (head_of layout line) then [] else fault_at UnknownHeader line.from ∷ []

@@ -1,19 +1,18 @@
 -- The rule of sections as relations, which the laws of this crate hold the definition to: this project's profile.
 use Rattle.std.specs.Prelude.{◌≡◌, ℕ, ◌<◌, ◌≤◌, ◌==◌, ◌↔◌, ◌⊎◌, Bool, true, false, List, [], ◌∷◌, length, Some, Result, Ok, Err}
 use Rattle.std.specs.List.{All, Contains, filter}
-use Rattle.le_base.specs.declared.stop.Span.{Span}
+use Rattle.le_layout.specs.declared.span.Span.{Span}
 use Rattle.le_base.specs.declared.stop.Refusal.{Refusal}
-use Rattle.le_base.specs.Stop.{refusal_at}
 use Rattle.le_layout.specs.declared.layout.Layout.{Layout}
 use Rattle.le_layout.specs.Words.{token_of}
 use Rattle.le_docs.specs.declared.doc.SectionKind.TheVariants as kinds
 use Rattle.le_docs.specs.declared.doc.Section.{Section}
 use Rattle.le_docs.specs.declared.doc.Doc.{Doc}
-use Rattle.le_docs.specs.declared.faults.Fault.{Fault}
+use Rattle.le_layout.specs.declared.fault.Fault.{Fault}
 use Rattle.le_docs.specs.declared.headers.Head.{Head}
 use Rattle.le_docs.specs.Kinds.{same_kind, ends_sentence}
 use Rattle.le_docs.specs.Cuts.{open_at}
-use Rattle.le_docs.specs.Faults.{precedes}
+use Rattle.le_layout.specs.Fault.{IsLeast, refusal_of}
 use Rattle.le_docs.specs.Headers.{head_of}
 use Rattle.le_docs.specs.Sections.{name_of, parts_under, all_sections, all_faults}
 
@@ -72,12 +71,7 @@ AreSectionsOf layout [] (section ∷ sections) = ⊥
 AreSectionsOf layout (head ∷ heads) [] = ⊥
 AreSectionsOf layout (head ∷ heads) (section ∷ sections) = IsSectionOf layout head section × AreSectionsOf layout heads sections
 
--- One of the faults, which none of them precedes.
-pub record IsFirstFault (faults : List Fault) (fault : Fault) : Type 0 where
-  pub one : Contains faults fault
-  pub first : All (λ other. precedes other fault ≡ false) faults
-
 -- A document without a fault has its sections. Of the others that fault is reported, with its place, that none precedes.
 abbrev pub IsReported : Layout → Result Doc Refusal → Type 0
 IsReported layout (Ok doc) = (all_faults layout ≡ []) × (doc.sections ≡ all_sections layout)
-IsReported layout (Err refusal) = (fault : Fault) × IsFirstFault (all_faults layout) fault × (refusal ≡ refusal_at fault.code fault.line fault.column)
+IsReported layout (Err refusal) = (fault : Fault) × IsLeast (all_faults layout) fault × (refusal ≡ refusal_of layout fault)

@@ -1,38 +1,28 @@
 -- The sections of a layout: this project's profile.
-use Rattle.std.specs.Prelude.{ℕ, ◌+◌, ◌-◌, ◌==◌, ◌&&◌, Bool, not, if◌then◌else◌, List, [], ◌∷◌, ◌++◌, length, codes, Option, None, Some, Result, Ok, Err}
+use Rattle.std.specs.Prelude.{ℕ, ◌+◌, ◌-◌, ◌==◌, ◌&&◌, Bool, not, if◌then◌else◌, List, [], ◌∷◌, ◌++◌, length, map, codes, Option, None, Some, Result, Ok, Err}
 use Rattle.std.specs.List.{list_any}
 use Rattle.std.specs.Str.{bytes_eq}
 use Rattle.le_base.specs.declared.code.Code.TheVariants.{UnknownHeader, NoStop, SameName}
-use Rattle.le_base.specs.declared.stop.Span.{Span}
+use Rattle.le_layout.specs.declared.span.Span.{Span}
 use Rattle.le_base.specs.declared.stop.Refusal.{Refusal}
-use Rattle.le_base.specs.Stop.{refusal_at}
 use Rattle.le_layout.specs.declared.token.Token.{Token}
 use Rattle.le_layout.specs.declared.layout.Layout.{Layout}
-use Rattle.le_layout.specs.Words.{text_of, tokens_of, token_of, is_stop, has_word}
+use Rattle.le_layout.specs.Words.{text_of, tokens_of, token_of, spaced, is_stop, has_word}
 use Rattle.le_docs.specs.declared.doc.SectionKind.{SectionKind}
 use Rattle.le_docs.specs.declared.doc.SectionKind.TheVariants as kinds
 use Rattle.le_docs.specs.declared.doc.Section.{Section}
 use Rattle.le_docs.specs.declared.doc.Doc.{Doc}
-use Rattle.le_docs.specs.declared.faults.Fault.{Fault}
+use Rattle.le_layout.specs.declared.fault.Fault.{Fault}
 use Rattle.le_docs.specs.declared.headers.Head.{Head}
 use Rattle.le_docs.specs.Kinds.{same_kind}
-use Rattle.le_docs.specs.Faults.{fault_at, least_from}
+use Rattle.le_layout.specs.Fault.{fault_at, refusal_of}
+use Rattle.le_docs.specs.Faults.{least_from}
 use Rattle.le_docs.specs.Headers.{heads_of, lines_faults, first_faults}
 use Rattle.le_docs.specs.Cuts.{Parts, parts_in, spans_at, open_at}
 
--- words with a space before each
-unfoldable pub spaced : Layout → List Token → List ℕ
-spaced layout [] = []
-spaced layout (t ∷ ts) = 32 ∷ (text_of layout t ++ spaced layout ts)
-
--- words joined by one space
-abbrev pub joined : Layout → List Token → List ℕ
-joined layout [] = []
-joined layout (t ∷ ts) = text_of layout t ++ spaced layout ts
-
 -- the words of a span joined by one space
 abbrev pub name_of : Layout → Span → List ℕ
-name_of layout span = joined layout (tokens_of layout span)
+name_of layout span = spaced (map (text_of layout) (tokens_of layout span))
 
 -- the parts of the section of this header, which ends here; a comma ends a template
 abbrev pub parts_under : Layout → Head → ℕ → Parts
@@ -48,18 +38,18 @@ is_prolog layout from to = (to - from == 2) && (has_word layout from (codes "pro
 
 -- a target is nothing but `prolog` and a full stop
 abbrev pub target_faults : Layout → Head → ℕ → List Fault
-target_faults layout head to = if same_kind head.kind kinds.Target && not (is_prolog layout head.body to) then fault_at layout UnknownHeader head.at ∷ [] else []
+target_faults layout head to = if same_kind head.kind kinds.Target && not (is_prolog layout head.body to) then fault_at UnknownHeader head.at ∷ [] else []
 
 -- a sentence isn't ended
 abbrev pub open_faults : Layout → List Span → List Fault
 open_faults layout [] = []
-open_faults layout (span ∷ spans) = fault_at layout NoStop span.from ∷ []
+open_faults layout (span ∷ spans) = fault_at NoStop span.from ∷ []
 
 -- there is no sentence, or a second one
 abbrev pub count_faults : Layout → ℕ → List Span → List Fault
-count_faults layout at [] = fault_at layout NoStop at ∷ []
+count_faults layout at [] = fault_at NoStop at ∷ []
 count_faults layout at (span ∷ []) = []
-count_faults layout at (span ∷ second ∷ spans) = fault_at layout UnknownHeader second.from ∷ []
+count_faults layout at (span ∷ second ∷ spans) = fault_at UnknownHeader second.from ∷ []
 
 -- a query has exactly one sentence
 abbrev pub query_faults : Layout → Head → List Span → List Fault
@@ -93,7 +83,7 @@ has_name kind name sections = list_any (λ s. same_kind s.kind kind && bytes_eq 
 
 -- some earlier section of this kind has this section's name
 abbrev pub name_faults : Layout → SectionKind → List Section → Section → List Fault
-name_faults layout kind earlier s = if same_kind s.kind kind && has_name kind s.name earlier then fault_at layout SameName s.at ∷ [] else []
+name_faults layout kind earlier s = if same_kind s.kind kind && has_name kind s.name earlier then fault_at SameName s.at ∷ [] else []
 
 -- the faults of the names of this kind
 unfoldable pub names_faults : Layout → SectionKind → List Section → List Section → List Fault
@@ -114,10 +104,10 @@ all_faults layout =
     ++ names_faults layout kinds.Query [] (all_sections layout))))
 
 -- the sections, where nothing is wrong
-abbrev pub decided : Option Fault → List Section → Result Doc Refusal
-decided None sections = Ok (record { sections = sections })
-decided (Some fault) sections = Err (refusal_at fault.code fault.line fault.column)
+abbrev pub decided : Layout → Option Fault → List Section → Result Doc Refusal
+decided layout None sections = Ok (record { sections = sections })
+decided layout (Some fault) sections = Err (refusal_of layout fault)
 
 -- the sections of a layout, or the refusal of the fault that decides
 abbrev pub sections_of : Layout → Result Doc Refusal
-sections_of layout = decided (least_from None (all_faults layout)) (all_sections layout)
+sections_of layout = decided layout (least_from None (all_faults layout)) (all_sections layout)

@@ -5,13 +5,13 @@ ghost use Rattle.le_docs.specs.Kinds.{ends_sentence as ends_sentence_of};
 ghost use Rattle.le_docs.specs.Faults.{least_from};
 ghost use Rattle.le_docs.specs.Bounds.{IsSentenceOver, IsSectionOver};
 ghost use Rattle.le_docs.specs.Cuts.{parts_in, spans_at, open_at};
-ghost use Rattle.le_docs.specs.Sections.{name_of as name_of_span, is_prolog as is_prolog_of, target_faults, open_faults, query_faults, parts_under, section_at, section_faults};
+ghost use Rattle.le_docs.specs.Sections.{is_prolog as is_prolog_of, target_faults, open_faults, query_faults, parts_under, section_at, section_faults};
 
-use crate::faults::{Fault, fault_at, sooner};
+use crate::faults::sooner;
 use crate::headers::Head;
 use crate::{Section, SectionKind, Spans};
-use le_base::{Code, Span, Text};
-use le_layout::{Kind, Layout, Token};
+use le_base::{Code, Text};
+use le_layout::{Fault, Kind, Layout, Span, Token};
 use std::alloc::{AllocError, Global};
 
 /// The sentences of a section, of which the last may not be ended.
@@ -61,7 +61,7 @@ pub fn section(
     let least = with_query_fault(layout, head, cut.sentences.as_slice(), least);
     let section = Section {
         kind: head.kind,
-        name: name_of(alloc, layout, head.name)?,
+        name: layout.spaced(alloc, head.name)?,
         at: head.at,
         sentences: Spans::from_vec(cut.sentences),
     };
@@ -75,7 +75,7 @@ fn with_target_fault(layout: &Layout, head: Head, to: u32, least: Option<Fault>)
     ensures { result ≡ least_from least (target_faults layout.now head to) }
 {
     if head.kind.is(SectionKind::Target) && !is_prolog(layout, head.body, to) {
-        return sooner(least, fault_at(layout, Code::UnknownHeader, head.at));
+        return sooner(least, Fault::at(Code::UnknownHeader, head.at));
     }
     least
 }
@@ -96,7 +96,7 @@ fn with_open_fault(layout: &Layout, unended: Option<Span>, least: Option<Fault>)
     ensures { result ≡ least_from least (open_faults layout.now (option_to_list unended)) }
 {
     match unended {
-        Some(span) => sooner(least, fault_at(layout, Code::NoStop, span.from)),
+        Some(span) => sooner(least, Fault::at(Code::NoStop, span.from)),
         None => least,
     }
 }
@@ -114,9 +114,9 @@ fn with_query_fault(
         return least;
     }
     match sentences {
-        [] => sooner(least, fault_at(layout, Code::NoStop, head.at)),
+        [] => sooner(least, Fault::at(Code::NoStop, head.at)),
         [_] => least,
-        [_, second, ..] => sooner(least, fault_at(layout, Code::UnknownHeader, second.from)),
+        [_, second, ..] => sooner(least, Fault::at(Code::UnknownHeader, second.from)),
     }
 }
 
@@ -156,24 +156,6 @@ fn sentences(
         sentences,
         unended: Some(unended),
     })
-}
-
-/// The words of a span, joined by one space.
-fn name_of(alloc: Global, layout: &Layout, span: Span) -> Result<Text, AllocError>
-    requires layout { IsLayout layout.now }
-    requires inside { span.to ≤ length layout.now.tokens }
-    ensures { IfOk result (λ name. name ≡ name_of_span layout.now span) }
-{
-    let mut name = Text::new(alloc);
-    if span.to <= span.from {
-        return Ok(name);
-    }
-    name.push_str(layout.word(span.from))?;
-    for k in span.from + 1..span.to {
-        name.push_str(" ")?;
-        name.push_str(layout.word(k))?;
-    }
-    Ok(name)
 }
 
 /// Whether a token ends a sentence.

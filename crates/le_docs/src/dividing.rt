@@ -7,10 +7,10 @@ ghost use Rattle.le_docs.specs.Sections.{next_at as next_at_of, sections_under, 
 
 use crate::cutting::section;
 use crate::doc::{Doc, Section, SectionKind, Sections};
-use crate::faults::{Fault, fault_at, sooner};
+use crate::faults::sooner;
 use crate::headers::{Head, find_headers};
-use le_base::{Code, Refusal, Stop};
-use le_layout::Layout;
+use le_base::{Code, Stop};
+use le_layout::{Fault, Layout};
 use std::alloc::{AllocError, Global};
 use std::collections::BTreeSet;
 
@@ -41,7 +41,7 @@ pub fn sections(alloc: Global, layout: &Layout) -> Result<Doc, Stop>
         None => Ok(Doc {
             sections: Sections::from_vec(divided.sections),
         }),
-        Some(fault) => Err(Stop::Refused(Refusal::at(alloc, fault.code, fault.line, fault.column))),
+        Some(fault) => Err(Stop::Refused(fault.refusal(alloc, layout))),
     }
 }
 
@@ -110,7 +110,7 @@ fn with_name_faults(
         }
         let name = String::from_str(alloc, section.name.as_str())?;
         if !names.insert(name)? {
-            least = sooner(least, fault_at(layout, Code::SameName, section.at));
+            least = sooner(least, Fault::at(Code::SameName, section.at));
         }
     }
     Ok(least)

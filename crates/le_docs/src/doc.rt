@@ -1,8 +1,8 @@
 ghost use Rattle.std.specs.Prelude.{◌≡◌};
 ghost use Rattle.le_docs.specs.Kinds.{same_kind, kind_number};
 
-use le_base::{Span, Text};
-use std::marker::Model;
+use le_base::{List, Text};
+use le_layout::Span;
 
 /// What a section holds.
 #[derive(Clone, Copy, Debug)]
@@ -41,43 +41,8 @@ impl SectionKind {
     }
 }
 
-/// Spans of tokens, in order, which contracts see as a list.
-#[derive(Debug, Drop)]
-pub struct Spans {
-    items: Vec<Span>,
-}
-
-impl Model for Spans {
-    ghost use Rattle.std.specs.Prelude.{List};
-    ghost use Rattle.le_base.specs.declared.stop.Span.{Span};
-
-    ghost Value = { List Span };
-
-    ghost view = { λ s. s.items.items };
-}
-
-impl Spans {
-    /// The spans of a vector.
-    pub fn from_vec(items: Vec<Span>) -> Self
-        ensures { result ≡ items.items }
-    {
-        Spans { items }
-    }
-
-    /// The vector of the spans.
-    pub fn into_vec(self) -> Vec<Span>
-        ensures { result.items ≡ self }
-    {
-        self.items
-    }
-
-    /// The spans, borrowed.
-    pub fn as_slice(&self) -> &[Span]
-        ensures { result.now ≡ self.now }
-    {
-        self.items.as_slice()
-    }
-}
+/// Spans of tokens, in order.
+pub type Spans = List<Span>;
 
 /// A section: what follows a header, up to the next header.
 #[derive(Debug, Drop)]
@@ -92,43 +57,8 @@ pub struct Section {
     pub sentences: Spans,
 }
 
-/// The sections of a document, in order, which contracts see as a list.
-#[derive(Debug, Drop)]
-pub struct Sections {
-    items: Vec<Section>,
-}
-
-impl Model for Sections {
-    ghost use Rattle.std.specs.Prelude.{List};
-    ghost use Rattle.le_docs.specs.declared.doc.Section.{Section};
-
-    ghost Value = { List Section };
-
-    ghost view = { λ s. s.items.items };
-}
-
-impl Sections {
-    /// The sections of a vector.
-    pub fn from_vec(items: Vec<Section>) -> Self
-        ensures { result ≡ items.items }
-    {
-        Sections { items }
-    }
-
-    /// The vector of the sections.
-    pub fn into_vec(self) -> Vec<Section>
-        ensures { result.items ≡ self }
-    {
-        self.items
-    }
-
-    /// The sections, borrowed.
-    pub fn as_slice(&self) -> &[Section]
-        ensures { result.now ≡ self.now }
-    {
-        self.items.as_slice()
-    }
-}
+/// The sections of a document, in order.
+pub type Sections = List<Section>;
 
 /// A document as its sections.
 #[derive(Debug, Drop)]

@@ -5,9 +5,9 @@ ghost use Rattle.le_docs.specs.Faults.{least_from};
 ghost use Rattle.le_docs.specs.Headers.{first_colon as first_colon_of, all_words as all_words_of, is_target as is_target_of, is_templates as is_templates_of, opens_knowledge as opens_knowledge_of, is_knowledge as is_knowledge_of, is_named as is_named_of, head_in as head_in_of, head_of as head_of_line, IsHeadIn, heads_of, line_faults, lines_faults, first_faults};
 
 use crate::SectionKind;
-use crate::faults::{Fault, fault_at, sooner};
-use le_base::{Code, Span};
-use le_layout::{Layout, Line};
+use crate::faults::sooner;
+use le_base::Code;
+use le_layout::{Fault, Layout, Line, Span};
 use std::alloc::{AllocError, Global};
 
 /// A header.
@@ -64,7 +64,7 @@ fn first_fault(layout: &Layout) -> Option<Fault>
     if head_of(layout, line).is_some() {
         return None;
     }
-    Some(fault_at(layout, Code::UnknownHeader, line.from))
+    Some(Fault::at(Code::UnknownHeader, line.from))
 }
 
 /// The fault that decides, where a line has a colon that ends no header.
@@ -84,7 +84,7 @@ fn with_line_fault(
         None => line.from,
     };
     if first_colon(layout, from, line.to) < line.to {
-        return sooner(least, fault_at(layout, Code::UnknownHeader, line.from));
+        return sooner(least, Fault::at(Code::UnknownHeader, line.from));
     }
     least
 }

@@ -8,7 +8,8 @@ use Rattle.jiff_core.specs.Date.{epoch_day}
 use Rattle.jiff_core.proofs.SignedLemmas.{signed_arith}
 use Rattle.jiff_core.proofs.CalendarLemmas.{days_in_month_bounds}
 use Rattle.jiff_core.proofs.DateLemmas.{days_from_civil-day, days_from_civil-next_month, days_from_civil-next_year, days_from_civil-max}
-use Rattle.le_values.specs.Days.{IsDay, day_of, day_text, first_day}
+use Rattle.le_base.specs.Ranges.{IsDay}
+use Rattle.le_values.specs.Days.{day_of, day_text, first_day}
 use Rattle.le_values.proofs.DayLemmas.{days_from_civil-first}
 use Rattle.le_values.proofs.TextLemmas.{day_of-day_text}
 

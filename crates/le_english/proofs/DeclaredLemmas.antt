@@ -10,7 +10,7 @@ use Rattle.std.proofs.lemmas.List.Folds.{list_any_at}
 use Rattle.std.proofs.lemmas.Slice.Eq.{bytes_eq-Decides}
 use Rattle.unicode_ident.proofs.Computing.{unicode_ident}
 use Rattle.le_base.specs.declared.stop.Refusal.{Refusal}
-use Rattle.le_base.specs.declared.stop.Span.{Span}
+use Rattle.le_layout.specs.declared.span.Span.{Span}
 use Rattle.le_layout.specs.Characters.{is_word_character, is_ascii_sign, is_further_sign}
 use Rattle.le_layout.specs.Pieces.{joins, goes_on, is_word as is_word_text}
 use Rattle.le_layout.specs.Faults.{is_numeral, is_numerals, is_number_like, is_bad_number, is_bad_date}

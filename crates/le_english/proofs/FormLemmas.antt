@@ -5,9 +5,9 @@ use Rattle.std.specs.Option.{option_or}
 use Rattle.std.proofs.lemmas.List.{length-map}
 use Rattle.le_layout.specs.declared.token.Token.{Token}
 use Rattle.le_layout.specs.declared.layout.Layout.{Layout}
-use Rattle.le_layout.specs.Words.{text_of, is_this_word}
+use Rattle.le_layout.specs.Words.{text_of, spaced, is_this_word, not_the_case, the_case}
 use Rattle.le_scope.specs.Phrases as scope
-use Rattle.le_scope.specs.Phrases.{not_the_case, the_case, simple_form, is_simple_phrase, phrase_name}
+use Rattle.le_scope.specs.Phrases.{simple_form, is_simple_phrase, phrase_name}
 use Rattle.le_layout.specs.Spellings.{Spelling, spelling_of, spellings}
 use Rattle.le_english.proofs.Forms.{is_plain, is_name, begins_with, has_determiner, begins_otherwise, article, quote_form, article_form, name_form, constant_form, form_of, name_of}
 
@@ -71,7 +71,7 @@ texts-said layout (t ∷ ts) = ap (λ xs. text_of layout t ∷ xs) (texts-said l
 
 pub name_of-said : (layout : Layout) (ts : List Token) → phrase_name layout ts ≡ name_of (spellings layout ts)
 unfolding scope.phrase_name name_of
-name_of-said layout ts = ap scope.joined (texts-said layout ts)
+name_of-said layout ts = ap spaced (texts-said layout ts)
 
 pub simple-said : (layout : Layout) (ts : List Token) (ss : List Spelling) → spellings layout ts ≡ ss → is_simple_phrase layout ts ≡ is_some (form_of ss)
 simple-said layout ts ss e = ap is_some (form-said layout ts ∙ ap form_of e)

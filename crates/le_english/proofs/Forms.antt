@@ -2,10 +2,10 @@
 use Rattle.std.specs.Prelude.{ℕ, Bool, true, false, not, ◌&&◌, ◌||◌, nat_le, if◌then◌else◌, Option, Some, None, List, [], ◌∷◌, length, map, codes}
 use Rattle.std.specs.List.{list_all, list_any}
 use Rattle.std.specs.Option.{option_or}
-use Rattle.le_layout.specs.Words.{same_word, is_word, is_quote}
+use Rattle.le_layout.specs.Words.{spaced, same_word, is_word, is_quote, not_the_case, the_case}
 use Rattle.le_scope.specs.declared.phrase.PhraseForm.{PhraseForm}
 use Rattle.le_scope.specs.declared.phrase.PhraseForm.TheVariants.{Quote, A, The, Which, Constant}
-use Rattle.le_scope.specs.Phrases.{is_plain_word, determiners, not_the_case, the_case, word_form, joined}
+use Rattle.le_scope.specs.Phrases.{is_plain_word, determiners, word_form}
 use Rattle.le_layout.specs.Spellings.{Spelling}
 
 abbrev pub says : List ℕ → Spelling → Bool
@@ -58,4 +58,4 @@ unfoldable pub form_of : List Spelling → Option PhraseForm
 form_of ss = option_or (quote_form ss) (option_or (article_form ss) (constant_form ss))
 
 unfoldable pub name_of : List Spelling → List ℕ
-name_of ss = joined (map (λ s. s.text) ss)
+name_of ss = spaced (map (λ s. s.text) ss)

@@ -13,15 +13,16 @@ mod Forms
 mod LineLemmas
 mod LineSteps
 mod NameLemmas
-mod NamedTerms
+pub mod NamedTerms
 mod Passing
 mod PhraseLemmas
 mod PlainLemmas
 mod ProofLines
+mod RangeLemmas
 mod ReadingLemmas
 mod Refuted
 mod Reshaped
-mod SaidLiterals
+pub mod SaidLiterals
 pub mod SaidNodes
 mod SaidTrees
 mod SayLemmas

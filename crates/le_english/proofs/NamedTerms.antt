@@ -1,9 +1,13 @@
--- The terms of a search have names that can be quoted: unification, computing and gathering make no new constant.
-use Rattle.std.proofs.Common.{◌≡◌, ℕ, zero, suc, ◌<◌, ◌==◌, Bool, true, false, cond, List, [], ◌∷◌, zip, length, slice_index_or, Option, Some, None, option_map, sym, subst, inl, inr, ◌⊎◌, if◌then◌else◌, ℤ, pos, ◌+ℤ◌, ◌-ℤ◌, ◌*ℤ◌}
+-- The terms of a search have names that can be quoted, and numbers and dates in range: unification, computing and gathering make no new constant, and no number or date out of range.
+use Rattle.std.proofs.Common.{◌≡◌, ℕ, zero, suc, ◌<◌, ◌≤◌, ◌^◌, ◌==◌, Bool, true, false, cond, List, [], ◌∷◌, map, zip, length, slice_index_or, Option, Some, None, option_map, refl, sym, subst, inl, inr, ◌⊎◌, if◌then◌else◌, ℤ, pos, ◌+ℤ◌, ◌-ℤ◌, ◌*ℤ◌}
+use Rattle.std.specs.Prelude.{IfSome}
 use Rattle.std.specs.List.{AllByRecursion}
 use Rattle.std.specs.Ordering.{int_eq}
+use Rattle.std.proofs.lemmas.List.{length-map}
+use Rattle.le_base.specs.declared.stop.FoldKind.{FoldKind}
 use Rattle.le_layout.specs.Written.{IsQuotable}
-use Rattle.le_terms.specs.Tree.{Tree, constant, number as numeral, date, variable, nil, cell, tree_of}
+use Rattle.le_base.specs.Ranges.{IsNumber, IsDay}
+use Rattle.le_terms.specs.Tree.{Tree, constant, number as numeral, date, variable, nil, cell, tree_of, IsInRange}
 use Rattle.le_terms.specs.Variables.{replaced}
 use Rattle.le_terms.specs.declared.term.Sym.TheVariants.{Num}
 use Rattle.le_terms.specs.declared.program.Atom.{Atom}
@@ -23,14 +27,17 @@ use Rattle.le_builtins.specs.Lists.{list_length}
 use Rattle.le_builtins.specs.Sentences.{sentences, sentence_of, needs, is_unbound, is_other_kind, is_some_so}
 use Rattle.le_gather.specs.declared.folding.FoldAnswer.{FoldAnswer}
 use Rattle.le_gather.specs.declared.folding.FoldAnswer.TheVariants as folds
+use Rattle.le_gather.specs.Folds.{fold_of}
 use Rattle.le_match.specs.Sayable.{IsTermToSay, AreTermsToSay}
 use Rattle.le_proofs.specs.Goals.{terms_under, head_equations, head_solution, raised}
-use Rattle.le_proofs.specs.Search.{Outcome, goes_on, fails, ends, by_solution, by_answer, by_fold}
+use Rattle.le_proofs.specs.Proofs.{Leaf}
+use Rattle.le_proofs.specs.Search.{Outcome, goes_on, fails, ends, by_solution, by_answer, by_fold, folding, value_of as value_at_leaf}
+use Rattle.le_english.proofs.RangeLemmas.{number-inside, later-inside, months-inside, FoldInside, fold-inside}
 
--- a symbol that is given is a number or a day
+-- a symbol that is given is a number or a day that a term may have
 abbrev IsValue : Tree → Type 0
-IsValue (numeral z) = Unit {0}
-IsValue (date d) = Unit {0}
+IsValue (numeral z) = IsNumber z
+IsValue (date d) = IsDay d
 IsValue tree = ⊥
 
 abbrev GivesValue : Calc → Type 0
@@ -38,15 +45,15 @@ GivesValue (Gives symbol) = IsValue (tree_of (symbol ∷ []))
 GivesValue answer = Unit {0}
 
 number-value : (n : ℤ) → GivesValue (settled (number_result n))
-number-value n = by (is_number n)
+number-value n = by (is_number n) refl
   where
-    by : (b : Bool) → GivesValue (settled (result (if b then Some (Num n) else None)))
-    by true = tt
-    by false = tt
+    by : (b : Bool) → is_number n ≡ b → GivesValue (settled (result (if b then Some (Num n) else None)))
+    by true test = number-inside n test
+    by false test = tt
 
-date-value : (day : Option ℤ) → GivesValue (settled (date_result day))
-date-value (Some d) = tt
-date-value None = tt
+date-value : (day : Option ℤ) → IfSome day IsDay → GivesValue (settled (date_result day))
+date-value (Some d) inside = inside
+date-value None inside = tt
 
 truth-value : (b : Bool) → GivesValue (settled (truth b))
 truth-value true = tt
@@ -90,9 +97,9 @@ says-value = (
                           (
                             λ terms. quotient-value (value_of terms 1) (value_of terms 2),
                             (
-                              λ terms. date-value (days_later (value_of terms 2) (value_of terms 1)),
+                              λ terms. date-value (days_later (value_of terms 2) (value_of terms 1)) (later-inside (value_of terms 2) (value_of terms 1)),
                               (
-                                λ terms. date-value (months_later (value_of terms 2) (value_of terms 1)),
+                                λ terms. date-value (months_later (value_of terms 2) (value_of terms 1)) (months-inside (value_of terms 2) (value_of terms 1)),
                                 (
                                   λ terms. number-value (value_of terms 2 -ℤ value_of terms 1),
                                   (
@@ -132,11 +139,11 @@ gives-value pred terms = by (is_some_so is_unbound (needs (sentence_of pred)) te
     by false false = all-at (λ sentence. (ts : List Tree) → GivesValue (settled (says sentence ts))) sentences pred _ says-value (λ ts. tt) terms
 
 module _ (names : List (List ℕ)) where
-  -- each constant of a term has a name that can be quoted
+  -- each constant of a term has a name that can be quoted, and its numbers and days are in range
   abbrev pub IsNamed : Tree → Type 0
   IsNamed (constant n) = (n < length names) × IsQuotable (slice_index_or names n [])
-  IsNamed (numeral z) = Unit {0}
-  IsNamed (date d) = Unit {0}
+  IsNamed (numeral z) = IsNumber z
+  IsNamed (date d) = IsDay d
   IsNamed (variable v) = Unit {0}
   IsNamed nil = Unit {0}
   IsNamed (cell head tail) = IsNamed head × IsNamed tail
@@ -150,11 +157,19 @@ module _ (names : List (List ℕ)) where
 
   pub term-named : (tree : Tree) → IsTermToSay names tree → IsNamed tree
   term-named (constant n) h = h
-  term-named (numeral z) h = tt
-  term-named (date d) h = tt
+  term-named (numeral z) h = h
+  term-named (date d) h = h
   term-named (variable v) h = tt
   term-named nil h = tt
   term-named (cell head tail) h = (term-named head h.0, term-named tail h.1)
+
+  pub named-in-range : (tree : Tree) → IsNamed tree → IsInRange tree
+  named-in-range (constant n) h = tt
+  named-in-range (numeral z) h = h
+  named-in-range (date d) h = h
+  named-in-range (variable v) h = tt
+  named-in-range nil h = tt
+  named-in-range (cell head tail) h = (named-in-range head h.0, named-in-range tail h.1)
 
   pub terms-named : (trees : List Tree) → AreTermsToSay names trees → AreNamed trees
   terms-named [] h = tt
@@ -162,8 +177,8 @@ module _ (names : List (List ℕ)) where
 
   pub replaced-named : (by : ℕ → Tree) → MapsNamed by → (tree : Tree) → IsNamed tree → IsNamed (replaced by tree)
   replaced-named by maps (constant n) h = h
-  replaced-named by maps (numeral z) h = tt
-  replaced-named by maps (date d) h = tt
+  replaced-named by maps (numeral z) h = h
+  replaced-named by maps (date d) h = h
   replaced-named by maps (variable v) h = maps v
   replaced-named by maps nil h = tt
   replaced-named by maps (cell head tail) h = (replaced-named by maps head h.0, replaced-named by maps tail h.1)
@@ -262,8 +277,8 @@ module _ (names : List (List ℕ)) where
   argument-named (t ∷ u ∷ terms) h = (h.0, h.1.0)
 
   value-named : (tree : Tree) → IsValue tree → IsNamed tree
-  value-named (numeral z) is = tt
-  value-named (date d) is = tt
+  value-named (numeral z) is = is
+  value-named (date d) is = is
   value-named (constant n) is = absurd is
   value-named (variable v) is = absurd is
   value-named nil is = absurd is
@@ -280,8 +295,16 @@ module _ (names : List (List ℕ)) where
   pub computing-named : (line : ℕ) (atom : Atom) → AreNamed atom.args → OutcomeNamed (by_answer line atom.args (compute atom.pred atom.args))
   computing-named line atom h = by-answer-named line atom.args (compute atom.pred atom.args) (gives-value atom.pred atom.args) h
 
-  pub folding-named : (line : ℕ) (shown : Tree) (answer : FoldAnswer) → IsNamed shown → OutcomeNamed (by_fold line shown answer)
-  folding-named line shown (folds.Value z) h = equation-named shown (numeral z) h tt
-  folding-named line shown folds.No h = tt
-  folding-named line shown folds.Unbound h = tt
-  folding-named line shown folds.Range h = tt
+  by-fold-named : (line : ℕ) (shown : Tree) (answer : FoldAnswer) → FoldInside answer → IsNamed shown → OutcomeNamed (by_fold line shown answer)
+  by-fold-named line shown (folds.Value z) inside h = equation-named shown (numeral z) h inside
+  by-fold-named line shown folds.No inside h = tt
+  by-fold-named line shown folds.Unbound inside h = tt
+  by-fold-named line shown folds.Range inside h = tt
+
+  pub folding-named : (line : ℕ) (fold : FoldKind) (shown : Tree) (cases : List Leaf) → AllByRecursion (λ leaf. AreNamed leaf.terms) cases → length cases ≤ 10 ^ 18 → IsNamed shown → OutcomeNamed (folding line fold shown cases)
+  folding-named line fold shown cases all few h =
+      by-fold-named line shown (fold_of fold (map value_at_leaf cases)) (fold-inside fold (map value_at_leaf cases) (inside cases all) (subst (λ n. n ≤ 10 ^ 18) (sym (length-map cases value_at_leaf)) few)) h
+    where
+      inside : (leaves : List Leaf) → AllByRecursion (λ leaf. AreNamed leaf.terms) leaves → AllByRecursion IsInRange (map value_at_leaf leaves)
+      inside [] all = tt
+      inside (leaf ∷ leaves) all = (named-in-range (value_at_leaf leaf) (argument-named leaf.terms all.0).0, inside leaves all.1)

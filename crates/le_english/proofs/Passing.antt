@@ -46,7 +46,7 @@ leaves-step zero (suc own) node nodes some =
     ap (λ n. own_leaf node + leaves (parts_of node - own_parts node) n nodes) e
 leaves-step zero zero node nodes some = absurd (elim some [ inl h ↦ omega (arith, h) | inr h ↦ omega (arith, h) ])
 
--- what stands behind parts, a node on
+-- what stands after parts, a node on
 pub behind-step : (others own : ℕ) (node : Node) (nodes : List Node) → (0 < others) ⊎ (0 < own) →
     behind (others + own) (node ∷ nodes) ≡ behind (others_after others node + own_after others own node) nodes
 behind-step (suc others) own node nodes some =

@@ -90,7 +90,7 @@ pub record LikeBranches (branches : WholeBranches) (nodes more : List Node) : Ty
   pub left : map bare rest ≡ more
   pub count : branch_count them ≡ branch_count branches
 
--- the shape of two parts, one behind the other
+-- the shape of two parts, one after the other
 apart : (nodes xs ys more : List Node) → map bare nodes ≡ map bare (xs ++ ys) ++ more → map bare nodes ≡ map bare xs ++ (map bare ys ++ more)
 apart nodes xs ys more same = same ∙ (ap (λ ns. ns ++ more) (map-append bare xs ys) ∙ append_assoc (map bare xs) (map bare ys) more)
 

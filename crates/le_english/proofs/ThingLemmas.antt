@@ -130,7 +130,7 @@ place-len k i (m ∷ ms) h =
     cond-false (k == m) _ _ e ∙ place-len k (i + 1) ms (sym (ap (λ b. b || list_any (λ n. k == n) ms) e) ∙ h) ∙ ap Some y)
     (cases_Bool (k == m))
 
--- numbers put behind change no place
+-- numbers put after change no place
 pub index-front : (ks more : List ℕ) (v : ℕ) → list_any (λ m. v == m) ks ≡ true → index_of (ks ++ more) v ≡ index_of ks v
 index-front [] more v h = cc
 index-front (k ∷ ks) more v h =

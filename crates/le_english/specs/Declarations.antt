@@ -1,6 +1,6 @@
 -- The templates of a document, as declarations make them: this project's profile.
 use Rattle.std.specs.Prelude.{◌≡◌, Ok, List, [], ◌∷◌, ◌++◌}
-use Rattle.le_base.specs.declared.stop.Span.{Span}
+use Rattle.le_layout.specs.declared.span.Span.{Span}
 use Rattle.le_layout.specs.declared.layout.Layout.{Layout}
 use Rattle.le_layout.specs.Layout.{IsLayout}
 use Rattle.le_layout.specs.Words.{IsSpan}

@@ -78,7 +78,7 @@ fold_word Sum = codes "sum"
 fold_word Number = codes "number"
 fold_word Greatest = codes "greatest"
 
--- what is said of a gather behind its result: what is made of the values, over so many cases, for a literal of this line
+-- what is said of a gather after its result: what is made of the values, over so many cases, for a literal of this line
 abbrev pub cases_text : FoldKind → ℕ → ℕ → List ℕ
 cases_text fold cases line = codes " is the " ++ (fold_word fold ++ (codes " over " ++ (decimal cases ++ (codes " cases at line " ++ decimal line))))
 
@@ -100,7 +100,7 @@ own_parts Lacking = 1
 own_parts Gathered = 1
 own_parts _ = 0
 
--- how many success leaves trees have that begin a list of nodes: so many parts of other trees or proofs, and behind them so many of these trees; leaves below a negation or a gather in them are those of other trees
+-- how many success leaves trees have that begin a list of nodes: so many parts of other trees or proofs, and after them so many of these trees; leaves below a negation or a gather in them are those of other trees
 abbrev pub leaves : ℕ → ℕ → List Node → ℕ
 leaves others own [] = 0
 leaves (suc others) own (node ∷ nodes) = leaves (parts_of node + others) own nodes

@@ -5,6 +5,7 @@ pub mod Lines
 pub mod Nodes
 pub mod Phrases
 pub mod Proofs
+pub mod Said
 pub mod Saying
 pub mod Sentences
 pub mod Walks

@@ -8,7 +8,8 @@ use Rattle.le_layout.specs.Joined.{Item, plain, gap, item_text, glues}
 use Rattle.le_templates.specs.declared.part.Template.{Template}
 use Rattle.le_terms.specs.declared.term.Sym.{Sym}
 use Rattle.le_terms.specs.declared.term.Sym.TheVariants.{Name, Num, Day, Var, Nil, Cons}
-use Rattle.le_terms.specs.Tree.{Tree, IsDay}
+use Rattle.le_base.specs.Ranges.{IsDay}
+use Rattle.le_terms.specs.Tree.{Tree}
 use Rattle.le_terms.specs.Variables.{all_occurrences}
 use Rattle.le_templates.specs.declared.part.Part.{Part}
 use Rattle.le_values.specs.Days.{day_text}

@@ -3,8 +3,8 @@ ghost use Rattle.le_layout.specs.Layout.{IsLayout};
 ghost use Rattle.le_layout.specs.Words.{IsSomeSpan};
 
 use crate::explain;
-use le_base::{FoldKind, Span};
-use le_layout::{Layout, scan};
+use le_base::FoldKind;
+use le_layout::{Layout, Span, scan};
 use le_proofs::{Derivation, Node, Nodes};
 use le_templates::Templates;
 use le_terms::{
@@ -68,7 +68,7 @@ fn term(alloc: Global, code: u32) -> Result<Term, AllocError> {
     }
 }
 
-// The atom whose predicate stands at this place, with the terms behind it.
+// The atom whose predicate stands at this place, with the terms after it.
 fn atom(alloc: Global, row: &[u32], place: usize) -> Result<Atom, AllocError> {
     let mut args = Vec::new(alloc);
     for (at, code) in row.iter().enumerate() {
@@ -396,7 +396,7 @@ const RULES: [Row; 4] = [
     },
 ];
 
-// Leaves below a negation and below a gather within a gather aren't cases; what stands behind a tree is
+// Leaves below a negation and below a gather within a gather aren't cases; what stands after a tree is
 // shown; a group within a group has its children at the depth of the rule's; negations of a template and of
 // a group; predefined and computed sentences; variables by their numbers; and nodes that are no derivation.
 const TREES: [Row; 4] = [

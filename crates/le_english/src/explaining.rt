@@ -1,8 +1,10 @@
 ghost use Rattle.std.specs.Prelude.{◌≡◌, ◌+◌, ◌<◌, ◌≤◌, ◌++◌, [], drop, length, reverse, IfOk, OnOk};
 ghost use Rattle.le_english.specs.Explanations.{explanation, lines_of, pending_at, pending_below, depth_below, unshown_below};
+ghost use Rattle.le_english.specs.Said.{IsKnown};
 
 use crate::lines::{clause_at, node_line};
 use crate::pending::{Pending, push_literals};
+use crate::said::Said;
 use crate::unshown::first_parts;
 use le_base::Text;
 use le_proofs::{Derivation, Node};
@@ -27,6 +29,7 @@ pub fn explain(
     let mut so_far = Explained {
         text: Text::new(alloc),
         pending: Vec::new(alloc),
+        last: None,
     };
     push_literals(&mut so_far.pending, 1, program.query.as_slice())?;
     let nodes = derivation.nodes.as_slice();
@@ -37,12 +40,13 @@ pub fn explain(
     Ok(so_far.text)
 }
 
-// An explanation up to some node: its text, and the literals whose proofs are still to come, the next one
-// last.
+// An explanation up to some node: its text, the literals whose proofs are still to come, the next one
+// last, and the last atom that was said.
 #[derive(Drop)]
 struct Explained {
     text: Text,
     pending: Vec<Pending>,
+    last: Option<Said>,
 }
 
 impl Explained {
@@ -58,6 +62,8 @@ impl Explained {
     ) -> Result<usize, AllocError>
         requires nodes { 0 < length nodes.now }
         requires pending { 0 < length self.old.pending.items }
+        requires known { IsKnown templates.now names.now self.old.last }
+        ensures known { OnOk result (IsKnown templates.now names.now self.new.last) }
         ensures some { IfOk result (λ n. 0 < n) }
         ensures within { IfOk result (λ n. n ≤ length nodes.now) }
         ensures rest { IfOk result (λ n. self.new.text ++ lines_of templates.now names.now program.now 0 (reverse self.new.pending.items) (drop n nodes.now) ≡ self.old.text ++ lines_of templates.now names.now program.now 0 (reverse self.old.pending.items) nodes.now) }
@@ -65,7 +71,16 @@ impl Explained {
         let at = self.pending.pop().unwrap();
         let node = &nodes[0];
         let passed = first_parts(&nodes[1..], unshown_below(node))?;
-        let line = node_line(alloc, templates, names, program, at, node, passed.leaves)?;
+        let line = node_line(
+            alloc,
+            templates,
+            names,
+            program,
+            at,
+            node,
+            passed.leaves,
+            &mut self.last,
+        )?;
         self.text.push_str(line.as_str())?;
         push_below(&mut self.pending, program, at.depth, node)?;
         Ok(1 + passed.len)

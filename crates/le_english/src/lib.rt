@@ -14,6 +14,7 @@ mod names;
 mod pending;
 mod phrases;
 mod proof_laws;
+mod said;
 mod sentences;
 #[cfg(test)]
 mod tests;

@@ -1,9 +1,10 @@
 ghost use Rattle.std.specs.Prelude.{◌≡◌, ◌+◌, ◌-◌, ◌++◌, None, Some, decimal, length, slice_get, IfOk, OnOk, MatchOption};
-ghost use Rattle.le_english.specs.Explanations.{indent, tagged, is_template, sentence_of, written_tag, use_line, clause_at, group_line, absent_line, fold_word, cases_text, gather_line, node_line};
+ghost use Rattle.le_english.specs.Explanations.{indent, tagged, sentence_of, written_tag, use_line, clause_at, group_line, absent_line, fold_word, cases_text, gather_line, node_line};
+ghost use Rattle.le_english.specs.Said.{IsKnown};
 
 use crate::pending::Pending;
 use crate::phrases::say_term;
-use crate::sentences::say;
+use crate::said::{Said, is_template, sentence};
 use itoa::Buffer;
 use le_base::{FoldKind, Text};
 use le_proofs::Node;
@@ -20,19 +21,22 @@ pub fn node_line(
     at: Pending,
     node: &Node,
     cases: usize,
+    last: &mut Option<Said>,
 ) -> Result<Text, AllocError>
-    ensures { IfOk result (λ text. text ≡ node_line templates.now names.now program.now at node.now cases) }
+    requires known { IsKnown templates.now names.now last.old }
+    ensures known { OnOk result (IsKnown templates.now names.now last.new) }
+    ensures text { IfOk result (λ text. text ≡ node_line templates.now names.now program.now at node.now cases) }
 {
     match node {
         Node::Use { clause, atom, .. } => match clause_at(program, *clause) {
-            Some(clause) => use_line(alloc, templates, names, at.depth, clause, atom),
+            Some(clause) => use_line(alloc, templates, names, at.depth, clause, atom, last),
             None => Ok(Text::new(alloc)),
         },
         Node::Compute { atom } => {
-            let text = sentence(alloc, templates, names, atom)?;
+            let text = sentence(alloc, templates, names, atom, last)?;
             tagged(alloc, at.depth, text.as_str(), "computed")
         }
-        Node::Absent { atom } => absent_line(alloc, templates, names, program, at, atom),
+        Node::Absent { atom } => absent_line(alloc, templates, names, program, at, atom, last),
         Node::Gather {
             fold,
             result: value,
@@ -60,18 +64,21 @@ fn use_line(
     depth: usize,
     clause: &Clause,
     atom: &Atom,
+    last: &mut Option<Said>,
 ) -> Result<Text, AllocError>
-    ensures { IfOk result (λ text. text ≡ use_line (sentence_of templates.now names.now atom.now) depth clause.now.kind clause.now.body clause.now.line) }
+    requires known { IsKnown templates.now names.now last.old }
+    ensures known { OnOk result (IsKnown templates.now names.now last.new) }
+    ensures text { IfOk result (λ text. text ≡ use_line (sentence_of templates.now names.now atom.now) depth clause.now.kind clause.now.body clause.now.line) }
 {
     match clause.kind {
         ClauseKind::Branch => Ok(Text::new(alloc)),
         ClauseKind::Written => {
-            let text = sentence(alloc, templates, names, atom)?;
+            let text = sentence(alloc, templates, names, atom, last)?;
             let tag = written_tag(alloc, clause)?;
             tagged(alloc, depth, text.as_str(), tag.as_str())
         }
         ClauseKind::Prelude => {
-            let text = sentence(alloc, templates, names, atom)?;
+            let text = sentence(alloc, templates, names, atom, last)?;
             tagged(alloc, depth, text.as_str(), "predefined")
         }
     }
@@ -99,12 +106,15 @@ fn absent_line(
     program: &Program,
     at: Pending,
     atom: &Atom,
+    last: &mut Option<Said>,
 ) -> Result<Text, AllocError>
-    ensures { IfOk result (λ text. text ≡ absent_line templates.now names.now program.now at.depth at.line atom.now) }
+    requires known { IsKnown templates.now names.now last.old }
+    ensures known { OnOk result (IsKnown templates.now names.now last.new) }
+    ensures text { IfOk result (λ text. text ≡ absent_line templates.now names.now program.now at.depth at.line atom.now) }
 {
     if is_template(templates, atom.pred) {
         let mut text = Text::of(alloc, "it is not the case that ")?;
-        text.push_str(sentence(alloc, templates, names, atom)?.as_str())?;
+        text.push_str(sentence(alloc, templates, names, atom, last)?.as_str())?;
         return tagged(alloc, at.depth, text.as_str(), "no way");
     }
     let group = atom.pred.saturating_sub(20 + templates.users());
@@ -147,7 +157,7 @@ fn gather_line(
     tagged(alloc, at.depth, text.as_str(), "all cases")
 }
 
-// Appends what is said of a gather behind its result.
+// Appends what is said of a gather after its result.
 fn push_cases(text: &mut Text, fold: FoldKind, cases: usize, line: u32) -> Result<(), AllocError>
     ensures { OnOk result (text.new ≡ text.old ++ cases_text fold cases line) }
 {
@@ -169,30 +179,6 @@ fn fold_word(fold: FoldKind) -> &'static str
         FoldKind::Number => "number",
         FoldKind::Greatest => "greatest",
     }
-}
-
-// The sentence of an atom, or nothing where it is of no template.
-#[tactic(auto, unfolding(crate::specs::Explanations::sentence_of))]
-fn sentence(
-    alloc: Global,
-    templates: &Templates,
-    names: &Names,
-    atom: &Atom,
-) -> Result<Text, AllocError>
-    ensures { IfOk result (λ text. text ≡ sentence_of templates.now names.now atom.now) }
-{
-    if is_template(templates, atom.pred) {
-        say(alloc, templates, names, atom)
-    } else {
-        Ok(Text::new(alloc))
-    }
-}
-
-// Whether a predicate is that of a template.
-fn is_template(templates: &Templates, pred: u32) -> bool
-    ensures { result ≡ is_template templates.now pred }
-{
-    pred < 20 + templates.users()
 }
 
 // A line of an explanation with a text and a tag.

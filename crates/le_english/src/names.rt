@@ -7,14 +7,11 @@ ghost use Rattle.le_layout.specs.Words.{text_of};
 ghost use Rattle.le_scope.specs.Phrases.{phrase_form, phrase_name as name_of};
 ghost use Rattle.le_english.specs.Phrases.{scanned, is_plain_name, is_plain_by, is_constant_by, is_plain_the, is_numbered_thing, is_digits, last_token};
 
-use le_base::{Span, Stop, Text};
-use le_layout::{Layout, scan};
+use le_base::{MOST_TEXT_BYTES, Stop, Text};
+use le_layout::{Layout, Span, scan};
 use le_scope::{PhraseForm, phrase_name, shape};
 use le_templates::Templates;
 use std::alloc::{AllocError, Global};
-
-// The longest name that is scanned, in bytes: 2^28.
-const LONGEST: usize = 268_435_456;
 
 // How many tokens a name has, where it reads, as a phrase, as the constant of that name, and else none.
 #[tactic(auto, unfolding(crate::specs::Phrases::is_plain_name))]
@@ -25,7 +22,7 @@ pub(crate) fn plain_tokens(
 ) -> Result<Option<usize>, AllocError>
     ensures { IfOk result (λ found. found ≡ (if is_plain_name templates.now name.now then Some (length (scanned name.now)) else None)) }
 {
-    if LONGEST < name.len() {
+    if MOST_TEXT_BYTES < name.len() {
         return Ok(None);
     }
     match scan(alloc, name.as_bytes()) {

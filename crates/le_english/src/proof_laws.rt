@@ -21,9 +21,9 @@ pub fn explains_admitted()
     ensures { (users : List Template) (names : List (List ℕ)) (program : Program) (nodes : List Node) (values : List Tree) → Admits program nodes values → HasLines users names program nodes }
 {}
 
-/// The answers of a search read back, where the program's clauses and its query can be said: the phrase of
-/// each value reads as the value, the sentence of each node of the derivation reads as the node's atom alone,
-/// and the phrase of a gather's result as the result. It does nothing.
+/// The answers of a search of at most 1,000,000 selections read back, where the program's clauses and its query
+/// can be said: the phrase of each value reads as the value, the sentence of each node of the derivation reads
+/// as the node's atom alone, and the phrase of a gather's result as the result. It does nothing.
 pub fn answers_read_back()
     ensures { AnswersReadBack }
 {}

@@ -7,15 +7,12 @@ ghost use Rattle.le_english.specs.Saying.{is_one, reads_alone};
 ghost use Rattle.le_english.specs.Lines.{capped};
 
 use crate::draft::compose;
-use le_base::{Span, Stop, Text};
-use le_layout::{Layout, scan};
+use le_base::{MOST_TEXT_BYTES, Stop, Text};
+use le_layout::{Layout, Span, scan};
 use le_match::{BestReading, best};
 use le_templates::Templates;
 use le_terms::{Atom, Names};
 use std::alloc::{AllocError, Global};
-
-// The longest sentence that is scanned, in bytes: 2^28.
-const LONGEST: usize = 268_435_456;
 
 /// The sentence of an atom, whose predicate is a template's: the template with each argument's phrase in its
 /// slot, joined by one space, except that there is none after `[`, before `]` and before `,`. Where this text
@@ -58,7 +55,7 @@ fn reads_alone(
 ) -> Result<bool, AllocError>
     ensures { (ls : List ℕ) → lengths.now ≡ map capped ls → IfOk result (λ alone. alone ≡ reads_alone templates.now pred ls text.now) }
 {
-    if LONGEST < text.len() {
+    if MOST_TEXT_BYTES < text.len() {
         return Ok(false);
     }
     match scan(alloc, text.as_bytes()) {

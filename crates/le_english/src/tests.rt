@@ -1,8 +1,8 @@
 ghost use Rattle.le_terms.specs.Tree.{IsLeaf};
 
 use crate::{say, say_term};
-use le_base::{Span, Text};
-use le_layout::scan;
+use le_base::Text;
+use le_layout::{Span, scan};
 use le_templates::Templates;
 use le_terms::{Atom, Names, Sym, Term, Terms};
 use std::alloc::{AllocError, Global};

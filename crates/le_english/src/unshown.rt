@@ -16,7 +16,7 @@ pub struct Unshown {
     pub len: usize,
 }
 
-// Parts that are still to be passed: those of other trees and proofs, and behind them those of the
+// Parts that are still to be passed: those of other trees and proofs, and after them those of the
 // trees whose leaves are counted.
 #[derive(Clone, Copy)]
 struct Parts {

@@ -1,12 +1,10 @@
 ghost use Rattle.std.specs.Prelude.{◌≡◌, ◌^◌, ◌≤◌, length, pos, ◌+ℤ◌, IfOk, IfErr, OnErr};
-ghost use Rattle.le_terms.specs.Tree.{number, IsNumber};
+ghost use Rattle.le_base.specs.Ranges.{IsNumber};
+ghost use Rattle.le_terms.specs.Tree.{number};
 ghost use Rattle.le_gather.specs.Folds.{fold_of, greatest_of, with_numbers, in_range, greater, if_no_number};
 
-use le_base::FoldKind;
+use le_base::{FoldKind, GREATEST_NUMBER};
 use le_terms::{Sym, Term};
-
-/// The greatest number, 10^18. The least is its negative.
-const GREATEST: i128 = 1_000_000_000_000_000_000;
 
 /// What is made of the values at all cases of a gather.
 #[derive(Clone, Copy, Debug, PartialEq, Eq)]
@@ -90,7 +88,8 @@ fn greatest_of(first: i64, values: &[Term]) -> FoldAnswer
 fn in_range(sum: i128) -> FoldAnswer
     ensures { result ≡ in_range sum }
 {
-    if -GREATEST <= sum && sum <= GREATEST {
+    let greatest = i128::from(GREATEST_NUMBER);
+    if -greatest <= sum && sum <= greatest {
         FoldAnswer::Value(sum as i64)
     } else {
         FoldAnswer::Range

@@ -12,12 +12,12 @@ use Rattle.le_layout.specs.declared.token.Kind.TheVariants as kinds
 use Rattle.le_layout.specs.Joined.{Item, opening, closing, plain, joined}
 use Rattle.le_layout.specs.Faults.{is_numeral, is_numerals, is_number_like, is_bad_number, is_bad_date}
 
--- an empty line is a line, and the text behind the last LF is one where there is any
+-- an empty line is a line, and the text after the last LF is one where there is any
 blank_lines : lines_of (97 ∷ 10 ∷ 10 ∷ 98 ∷ 10 ∷ []) ≡ (97 ∷ 10 ∷ []) ∷ (10 ∷ []) ∷ (98 ∷ 10 ∷ []) ∷ []
 unfolding lines_of
 blank_lines = refl
 
--- a tab behind two characters leads to column 4, one behind four to column 8
+-- a tab after two characters leads to column 4, one after four to column 8
 tabs : place_behind (record { byte = 0; line = 1; column = 2 }) (9 ∷ 9 ∷ []) ≡ record { byte = 2; line = 1; column = 8 }
 unfolding next_place
 tabs = refl

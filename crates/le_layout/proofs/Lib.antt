@@ -1,5 +1,6 @@
 pub mod CutLemmas
 mod Examples
+pub mod FaultLemmas
 pub mod JoinLemmas
 pub mod KindLemmas
 pub mod LeastLemmas
@@ -9,9 +10,11 @@ pub mod RoomLemmas
 pub mod RowLemmas
 pub mod ScanLemmas
 pub mod SoundLemmas
+pub mod SpacedLemmas
 pub mod SpanLemmas
 pub mod StandLemmas
 pub mod StepLemmas
 pub mod ValueLemmas
 pub mod WalkLemmas
 pub mod WordLemmas
+pub mod WordsLemmas

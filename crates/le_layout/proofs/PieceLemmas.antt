@@ -1,4 +1,4 @@
--- The form of the first piece of a line, and the pieces behind it.
+-- The form of the first piece of a line, and the pieces after it.
 use Rattle.std.proofs.Common.{◌≡◌, ◌==◌, ◌⊎◌, zero, ℕ, suc, ◌+◌, ◌<◌, ◌≤◌, true, false, cond, ◌||◌, List, [], ◌∷◌, length, take, drop, get_or, sym, refl, ap, ap₂, ◌∙◌, inl, inr, subst, ⊎_elim, arith}
 use Rattle.std.proofs.lemmas.Bool.{cases_Bool, cond-true, cond-false, eqb-true, ne_eqb, both_ways}
 use Rattle.std.proofs.lemmas.Bool.Decides.{nat_tests}
@@ -107,7 +107,7 @@ end_inside c cs e r =
     (λ n. let f : forms.Single ≡ forms.LineEnd = sym n.2 ∙ e in cc) m) l) k) h)
     (form_cases c cs)
 
--- the pieces behind so many characters are those of what is left
+-- the pieces after so many characters are those of what is left
 pub pieces_behind-drop : (n : ℕ) (cs : List ℕ) → pieces_behind n cs ≡ pieces_of (drop n cs)
 unfolding pieces_behind
 pieces_behind-drop zero [] = refl

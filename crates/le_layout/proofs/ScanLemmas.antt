@@ -48,7 +48,7 @@ room_in text cs ds rest place utf8 short c d p r =
 pub rest_short : (text ds rest : List ℕ) → IsUtf8 text → length text ≤ 2 ^ 28 → ds ≡ chars text → rest ≡ without_mark ds → length rest < 2 ^ 32
 rest_short text ds rest utf8 short d r = omega (arith, ap length (r ∙ ap without_mark d), rest_le (chars text), chars_short text utf8)
 
--- the characters behind a mark stand in the text from the first place on
+-- the characters after a mark stand in the text from the first place on
 stands_first : (text : List ℕ) → IsUtf8 text → StandsIn text (first_place (chars text)) (without_mark (chars text))
 stands_first text utf8 =
     let cs = chars text in

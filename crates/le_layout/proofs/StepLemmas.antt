@@ -17,7 +17,7 @@ use Rattle.le_layout.specs.Layout.{token_at, tokens_at, as_list}
 use Rattle.le_layout.proofs.RoomLemmas.{room_less, room_behind}
 use Rattle.le_layout.proofs.PieceLemmas.{pieces_of-nil, begins_comment-pieces_of}
 
--- a piece of this form stands on the line from at on, and place and behind are the places of its ends
+-- a piece of this form stands on the line from at on, and place and after are the places of its ends
 pub record IsStep (line : List ℕ) (at n : ℕ) (form : Form) (place behind : Place) : Type 0 where
   pub some : 0 < n
   pub within : at + n ≤ length line

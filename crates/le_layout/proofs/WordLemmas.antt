@@ -47,7 +47,7 @@ goes_on-cases a b bs = refl
 pub goes_on-word : (a b : ℕ) (bs : List ℕ) → is_word_character b ≡ true → goes_on a (b ∷ bs) ≡ true
 goes_on-word a b bs h = goes_on-cases a b bs ∙ ap (λ t. t || joins a b bs) h
 
--- more characters behind change nothing
+-- more characters after change nothing
 pub goes_on-more : (a b : ℕ) (bs more : List ℕ) → goes_on a (b ∷ bs) ≡ true → goes_on a (b ∷ (bs ++ more)) ≡ true
 goes_on-more a b [] more h =
     ⊎_elim (λ k. goes_on-word a b more k) (λ k. absurd (joins-none a b k)) (or_cases (is_word_character b) (joins a b []) (sym (goes_on-cases a b []) ∙ h))
@@ -66,7 +66,7 @@ word_more-le a [] = omega arith
 word_more-le a (b ∷ bs) =
     ⊎_elim (λ h. omega (arith, more_yes a b bs h, word_more-le b bs)) (λ h. omega (arith, more_no a b bs h)) (cases_Bool (goes_on a (b ∷ bs)))
 
--- a character that goes on does so with those that go on behind it
+-- a character that goes on does so with those that go on after it
 goes_on-front : (a b : ℕ) (bs : List ℕ) → goes_on a (b ∷ bs) ≡ true → goes_on a (b ∷ take (word_more b bs) bs) ≡ true
 goes_on-front a b [] h = h
 goes_on-front a b (c ∷ cs) h =

@@ -1,4 +1,5 @@
 pub mod Characters
+pub mod Fault
 pub mod Faults
 pub mod Joined
 pub mod Layout

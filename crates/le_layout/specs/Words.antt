@@ -1,8 +1,8 @@
 -- The words and the spans of a layout: this project's profile.
-use Rattle.std.specs.Prelude.{ℕ, ◌<◌, ◌≤◌, ◌&&◌, Bool, true, false, List, length, map, slice_range, slice_index_or}
+use Rattle.std.specs.Prelude.{ℕ, ◌+◌, ◌<◌, ◌≤◌, ◌&&◌, Bool, true, false, List, [], ◌∷◌, ◌++◌, length, map, flat_map, codes, slice_range, slice_index_or}
 use Rattle.std.specs.Char.{to_ascii_lowercase}
 use Rattle.std.specs.Str.{bytes_eq}
-use Rattle.le_base.specs.declared.stop.Span.{Span}
+use Rattle.le_layout.specs.declared.span.Span.{Span}
 use Rattle.le_layout.specs.declared.token.Kind.{Kind}
 use Rattle.le_layout.specs.declared.token.Kind.TheVariants as kinds
 use Rattle.le_layout.specs.declared.token.Token.{Token}
@@ -26,6 +26,11 @@ text_of layout t = slice_range layout.text t.from t.to
 -- the tokens of a span
 abbrev pub tokens_of : Layout → Span → List Token
 tokens_of layout span = slice_range layout.tokens span.from span.to
+
+-- texts joined by one space
+abbrev pub spaced : List (List ℕ) → List ℕ
+spaced [] = []
+spaced (w ∷ ws) = w ++ flat_map (λ v. 32 ∷ v) ws
 
 -- the token with this number
 abbrev pub token_of : Layout → ℕ → Token
@@ -66,3 +71,20 @@ is_this_word layout word t = is_word t.kind && same_word (text_of layout t) word
 -- whether the token with this number is this word, ASCII case ignored
 unfoldable pub has_word : Layout → ℕ → List ℕ → Bool
 has_word layout k word = is_this_word layout word (token_of layout k)
+
+-- whether the tokens from this number on are these words, ASCII case ignored
+unfoldable pub has_words : Layout → ℕ → List (List ℕ) → Bool
+has_words layout k [] = true
+has_words layout k (w ∷ ws) = has_word layout k w && has_words layout (k + 1) ws
+
+-- the words that open a negation
+abbrev pub not_the_case : List (List ℕ)
+not_the_case = codes "it" ∷ codes "is" ∷ codes "not" ∷ codes "the" ∷ codes "case" ∷ codes "that" ∷ []
+
+-- the words that mark the second block of a `for all`
+abbrev pub the_case : List (List ℕ)
+the_case = codes "it" ∷ codes "is" ∷ codes "the" ∷ codes "case" ∷ codes "that" ∷ []
+
+-- the words that open a `for all`
+abbrev pub all_cases : List (List ℕ)
+all_cases = codes "for" ∷ codes "all" ∷ codes "cases" ∷ codes "in" ∷ codes "which" ∷ []

@@ -1,7 +1,10 @@
 ghost use Rattle.std.specs.Prelude.{◌≡◌};
+ghost use Rattle.le_base.specs.declared.stop.Stop.TheVariants.{Refused};
+ghost use Rattle.le_base.specs.Stop.{refusal_at};
 ghost use Rattle.le_layout.specs.Words.{is_word, is_quote, is_comma, is_colon, is_star, is_stop};
 
-use std::marker::Model;
+use le_base::{Code, List, Refusal, Stop};
+use std::alloc::Global;
 
 /// What a token is.
 #[derive(Clone, Copy, Debug, PartialEq, Eq)]
@@ -85,6 +88,15 @@ pub struct Token {
     pub column: u32,
 }
 
+impl Token {
+    /// The refusal with this code at the token.
+    pub fn refused(self, alloc: Global, code: Code) -> Stop
+        ensures { result ≡ Refused (refusal_at code self.line self.column) }
+    {
+        Stop::Refused(Refusal::at(alloc, code, self.line, self.column))
+    }
+}
+
 /// A line that has a token.
 #[derive(Clone, Copy, Debug)]
 pub struct Line {
@@ -98,78 +110,8 @@ pub struct Line {
     pub to: u32,
 }
 
-/// The tokens of a text, in order, which contracts see as a list.
-#[derive(Debug, Drop)]
-pub struct Tokens {
-    items: Vec<Token>,
-}
+/// The tokens of a text, in order.
+pub type Tokens = List<Token>;
 
-impl Model for Tokens {
-    ghost use Rattle.std.specs.Prelude.{List};
-    ghost use Rattle.le_layout.specs.declared.token.Token.{Token};
-
-    ghost Value = { List Token };
-
-    ghost view = { λ t. t.items.items };
-}
-
-impl Tokens {
-    /// The tokens of a vector.
-    pub fn from_vec(items: Vec<Token>) -> Self
-        ensures { result ≡ items.items }
-    {
-        Tokens { items }
-    }
-
-    /// The vector of the tokens.
-    pub fn into_vec(self) -> Vec<Token>
-        ensures { result.items ≡ self }
-    {
-        self.items
-    }
-
-    /// The tokens, borrowed.
-    pub fn as_slice(&self) -> &[Token]
-        ensures { result.now ≡ self.now }
-    {
-        self.items.as_slice()
-    }
-}
-
-/// The lines of a text that have a token, in order, which contracts see as a list.
-#[derive(Debug, Drop)]
-pub struct Lines {
-    items: Vec<Line>,
-}
-
-impl Model for Lines {
-    ghost use Rattle.std.specs.Prelude.{List};
-    ghost use Rattle.le_layout.specs.declared.token.Line.{Line};
-
-    ghost Value = { List Line };
-
-    ghost view = { λ l. l.items.items };
-}
-
-impl Lines {
-    /// The lines of a vector.
-    pub fn from_vec(items: Vec<Line>) -> Self
-        ensures { result ≡ items.items }
-    {
-        Lines { items }
-    }
-
-    /// The vector of the lines.
-    pub fn into_vec(self) -> Vec<Line>
-        ensures { result.items ≡ self }
-    {
-        self.items
-    }
-
-    /// The lines, borrowed.
-    pub fn as_slice(&self) -> &[Line]
-        ensures { result.now ≡ self.now }
-    {
-        self.items.as_slice()
-    }
-}
+/// The lines of a text that have a token, in order.
+pub type Lines = List<Line>;

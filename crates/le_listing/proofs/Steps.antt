@@ -12,7 +12,7 @@ use Rattle.le_listing.specs.ClauseText.{marked, filled, form_text, joint, litera
 both_steps : (old here new rest all : List ℕ) → new ≡ old ++ here → old ++ (here ++ rest) ≡ all → new ++ rest ≡ all
 both_steps old here new rest all is before = ap (λ t. t ++ rest) is ∙ append_assoc old here rest ∙ before
 
--- an item writes this, and the items behind it the rest
+-- an item writes this, and the items after it the rest
 pub one_more : {X : Type 0} (f : List X → List ℕ) (here : List ℕ) (xs : List X) (i : ℕ) (x : X) (old new all : List ℕ) → i < length xs → x ≡ get_or xs i x
     → f (x ∷ drop (i + 1) xs) ≡ here ++ f (drop (i + 1) xs) → new ≡ old ++ here → old ++ f (drop i xs) ≡ all → new ++ f (drop (i + 1) xs) ≡ all
 one_more f here xs i x old new all within at splits is before =

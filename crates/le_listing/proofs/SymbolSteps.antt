@@ -36,7 +36,7 @@ module _ (names : List (List ℕ)) (vars : List ℕ) where
       ∙ ap (λ t. mark ++ t) (head_is ∙ ap (λ t. head_text ++ t) tail_is ∙ sym (append_assoc head_text rest_text behind))
       ∙ sym (append_assoc mark (head_text ++ rest_text) behind)
 
-  -- the symbols of a tree write its text, and then what stands behind them
+  -- the symbols of a tree write its text, and then what stands after them
   tree_text : (is_item : Bool) (tree : Tree) (rest : List Sym)
       → symbols_text names vars is_item (flat tree ++ rest) ≡ part_text is_item tree ++ symbols_text names vars false rest
   tree_text true (constant n) rest = refl

@@ -39,7 +39,7 @@ abbrev mutual
   term_text names vars nil = codes "[]"
   term_text names vars (cell head tail) = codes "[" ++ (term_text names vars head ++ tail_text names vars tail)
 
-  -- the rest of a list, behind an item
+  -- the rest of a list, after an item
   pub tail_text : List (List ℕ) → List ℕ → Tree → List ℕ
   tail_text names vars (constant n) = codes " | " ++ (quoted (slice_index_or names n []) ++ codes "]")
   tail_text names vars (number z) = codes " | " ++ (signed_decimal z ++ codes "]")

@@ -3,7 +3,7 @@ use Rattle.std.specs.Prelude.{ℕ, Bool, true, false, if◌then◌else◌, List,
 use Rattle.std.specs.Fmt.{signed_decimal}
 use Rattle.le_terms.specs.declared.term.Sym.{Sym}
 use Rattle.le_terms.specs.declared.term.Sym.TheVariants.{Name, Num, Day, Var, Nil, Cons}
-use Rattle.le_terms.specs.Tree.{IsDay}
+use Rattle.le_base.specs.Ranges.{IsDay}
 use Rattle.le_values.specs.Days.{day_text}
 use Rattle.le_listing.specs.ClauseText.{quoted, variable_text}
 
@@ -33,7 +33,7 @@ at_tail names vars Cons = codes ", "
 abbrev pub symbol_text : List (List ℕ) → List ℕ → Bool → Sym → List ℕ
 symbol_text names vars is_item symbol = if is_item then at_item names vars symbol else at_tail names vars symbol
 
--- whether an item begins behind a symbol, and else the tail of a list
+-- whether an item begins after a symbol, and else the tail of a list
 abbrev pub is_cell : Sym → Bool
 is_cell (Name n) = false
 is_cell (Num z) = false

@@ -53,8 +53,8 @@ fn push_term(
     push_symbols(alloc, text, names, vars, term.as_syms())
 }
 
-// Appends what symbols write, the first of which begins a term. Behind a cell an item begins, and
-// behind every other symbol the tail of the innermost list that is open.
+// Appends what symbols write, the first of which begins a term. After a cell an item begins, and
+// after every other symbol the tail of the innermost list that is open.
 fn push_symbols(
     alloc: Global,
     text: &mut Text,
@@ -73,7 +73,7 @@ fn push_symbols(
     Ok(())
 }
 
-// Whether an item begins behind a symbol.
+// Whether an item begins after a symbol.
 fn is_cell(symbol: Sym) -> bool
     ensures { result ≡ is_cell symbol }
 {

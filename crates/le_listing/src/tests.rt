@@ -116,11 +116,54 @@ query three
 end of clauses
 ";
 
-const CASES: [(&str, &str); 4] = [
+const CITIZENSHIP: &str = "the target language is: prolog.
+
+the templates are:
+    *a person* is born in *a place* on *a date*,
+    *a date* is after commencement,
+    *a person* is the mother of *a person*,
+    *a person* is a British citizen on *a date*,
+    *a person* is settled in the UK on *a date*,
+    *a person* acquires British citizenship on *a date*.
+
+the knowledge base citizenship includes:
+    a person acquires British citizenship on a date
+    if the person is born in the UK on the date
+    and the date is after commencement
+    and an other person is the mother of the person
+    and the other person is a British citizen on the date
+        or the other person is settled in the UK on the date.
+
+scenario alice is:
+    John is born in the UK on 2021-10-09.
+    2021-10-09 is after commencement.
+    Alice is the mother of John.
+    Alice is a British citizen on 2021-10-09.
+
+query one is:
+    which person acquires British citizenship on which date.
+";
+
+const CITIZENSHIP_LISTED: &str = "knowledge base citizenship
+12: *V1* acquires British citizenship on *V2* if *V1* is born in *\"the UK\"* on *V2* and *V2* is after commencement and *V3* is the mother of *V1* and group 1 *V3* *V2*
+16: group 1 *V1* *V2* if *V1* is a British citizen on *V2*
+17: group 1 *V1* *V2* if *V1* is settled in the UK on *V2*
+scenario alice
+20: *\"John\"* is born in *\"the UK\"* on *2021-10-09*
+21: *2021-10-09* is after commencement
+22: *\"Alice\"* is the mother of *\"John\"*
+23: *\"Alice\"* is a British citizen on *2021-10-09*
+query one
+26: answer *V1* *V2* if *V1* acquires British citizenship on *V2*
+end of clauses
+";
+
+const CASES: [(&str, &str); 5] = [
     ("", "end of clauses\n"),
     (MOODS, MOODS_LISTED),
     (DEBTS, DEBTS_LISTED),
     (LIKES, LIKES_LISTED),
+    (CITIZENSHIP, CITIZENSHIP_LISTED),
 ];
 
 #[test]

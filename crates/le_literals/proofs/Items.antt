@@ -49,7 +49,7 @@ literal-at change =
     part-at (Allows change) (allows-left change) (allows-right change) (λ x. all_occurrences (form_terms x.form)) (λ literals. all_occurrences (literals_terms literals))
     (λ x xs. all_occurrences-append (form_terms x.form) (literals_terms xs))
 
--- one more image behind some items and the images so far
+-- one more image after some items and the images so far
 pub map_take-push-behind : {X Y : Type 0} (f : X → Y) (xs : List X) (i : ℕ) (x : X) (first old new : List Y) (y : Y) → i < length xs → x ≡ get_or xs i x → old ≡ first ++ map f (take i xs) → y ≡ f x → new ≡ old ++ y ∷ [] → new ≡ first ++ map f (take (i + 1) xs)
 map_take-push-behind f xs i x first old new y within read before image pushed =
     pushed ∙ (ap (λ ys. ys ++ y ∷ []) before

@@ -4,6 +4,7 @@ ghost use Rattle.le_proofs.specs.Goals.{terms_under, raised};
 ghost use Rattle.le_literals.specs.Changing.{CanRaise};
 
 use crate::changing::raised_term;
+use le_base::Copied;
 use le_terms::Term;
 use std::alloc::{AllocError, Global};
 

@@ -33,7 +33,7 @@ pub record Shown : Type 0 where
 abbrev pub started : Program → ℕ → Shown
 started program budget = record { program = program; budget = budget; given = 0; phase = Fresh }
 
--- what a machine that didn't meet want of memory answers next
+-- what a machine that didn't run out of memory answers next
 abbrev pub next_answer : Shown → Next
 next_answer shown = next_of shown.program shown.budget shown.given
 
@@ -49,7 +49,7 @@ given_after Spent given = given
 abbrev pub told : Shown → Shown
 told shown = record { program = shown.program; budget = shown.budget; given = given_after (next_answer shown) shown.given; phase = Told (next_answer shown) }
 
--- a machine after want of memory
+-- a machine that ran out of memory
 abbrev pub lost : Shown → Shown
 lost shown = record { program = shown.program; budget = shown.budget; given = shown.given; phase = Lost }
 
@@ -65,7 +65,7 @@ last_values shown = option_map (λ leaf. canonical_of leaf.terms) (last_leaf sho
 abbrev pub last_derivation : Shown → Option (List Node)
 last_derivation shown = option_map (λ leaf. (certificate_of leaf).nodes) (last_leaf shown)
 
--- how many selections were made up to what the last call of `next` answered: none before the first, and after want of memory nothing is said
+-- how many selections were made up to what the last call of `next` answered: none before the first, and where memory ran out nothing is said
 abbrev pub Selections : Shown → Phase → ℕ → Type 0
 Selections shown Fresh n = n ≡ 0
 Selections shown (Told Answer) n = selections_at shown.program shown.budget (shown.given - 1) ≡ Some n

@@ -6,6 +6,7 @@ ghost use Rattle.le_machine.specs.Keeping.{outcome_of, IsComputable};
 ghost use Rattle.le_machine.specs.Turns.{MayEnd};
 
 use crate::goals::Outcome;
+use le_base::Copied;
 use le_builtins::{Calc, compute};
 use le_proofs::Next;
 use le_subst::{Subst, solve};

@@ -6,7 +6,7 @@ ghost use Rattle.le_machine.specs.Turns.{MayEnd};
 
 use crate::equating::equate;
 use crate::goals::Outcome;
-use le_base::FoldKind;
+use le_base::{FoldKind, GREATEST_NUMBER};
 use le_gather::{FoldAnswer, fold};
 use le_proofs::Next;
 use le_terms::{Sym, Term};
@@ -14,9 +14,6 @@ use std::alloc::{AllocError, Global};
 
 // How many values a gather can have: more don't fit in memory.
 const MOST_VALUES: usize = 1_000_000_000_000_000_000;
-
-// The greatest number, 10^18. The least is its negative.
-const GREATEST: i64 = 1_000_000_000_000_000_000;
 
 // What becomes of a gather of this line whose search is done and found these values.
 pub(crate) fn gathered(
@@ -35,7 +32,7 @@ pub(crate) fn gathered(
     match fold(kind, values) {
         FoldAnswer::Value(number) => {
             // It is in range, since the values are and `fold` answers `Range` for other sums.
-            if number < -GREATEST || number > GREATEST {
+            if number < -GREATEST_NUMBER || number > GREATEST_NUMBER {
                 return Err(AllocError);
             }
             let value = Term::leaf(alloc, Sym::Num(number))?;

@@ -75,8 +75,8 @@ impl<'p> Machine<'p> {
     }
 
     /// The next answer: `Answer` while the search has answers that weren't given, in their order, and
-    /// then how it ends. After an end it repeats that end. The error is want of memory, after which
-    /// each further call answers it too.
+    /// then how it ends. After an end it repeats that end. Where memory runs out, each
+    /// further call answers that too.
     pub fn next(&mut self, alloc: Global) -> Result<Next, AllocError>
         ensures next { IfOk result (λ next. next ≡ next_answer self.old) }
         ensures machine { OnOk result (self.new ≡ told self.old) }
@@ -111,7 +111,7 @@ impl<'p> Machine<'p> {
 
     /// The values of the last answer: the terms of the variables that are asked for, with the variables
     /// in them numbered from 1 by first occurrence over all of them. The last call of `next` answered
-    /// `Answer`. The error is want of memory.
+    /// `Answer`.
     pub fn values(&self, alloc: Global) -> Result<Vec<Term>, AllocError>
         requires { self.now.phase ≡ Told Answer }
         ensures { IfOk result (λ values. last_values self.now ≡ Some values.items) }
@@ -129,7 +129,7 @@ impl<'p> Machine<'p> {
     }
 
     /// How many selections the search made up to the answer or the end that the last call of `next`
-    /// gave, and 0 before the first. After want of memory it is some number. It takes no memory.
+    /// gave, and 0 before the first. Where memory ran out it is some number.
     pub fn selections(&self) -> u32
         ensures { Selections self.now self.now.phase result }
     {

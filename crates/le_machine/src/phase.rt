@@ -7,6 +7,6 @@ pub(crate) enum Phase {
     Fresh,
     // The last one answered this.
     Told(Next),
-    // One of them answered want of memory.
+    // One of them ran out of memory.
     Lost,
 }

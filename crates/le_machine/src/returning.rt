@@ -25,6 +25,7 @@ use crate::goals::{
 };
 use crate::resolving::{replaced_literal, resolve};
 use crate::searching::{go_on, note, note_all, note_present};
+use le_base::Copied;
 use le_derivations::PathStep;
 use le_index::{Index, key_of};
 use le_proofs::{Next, Node, Nodes};
@@ -103,7 +104,7 @@ fn count_children(search: &mut Search, split: usize, children: u32)
     }
 }
 
-// The visit of a child of an open goal, by a clause with this node, behind which the clauses were tried before a place.
+// The visit of a child of an open goal, by a clause with this node, after which the clauses were tried before a place.
 fn enter(
     alloc: Global,
     search: &mut Search,

@@ -14,6 +14,7 @@ ghost use Rattle.le_machine.specs.Keeping.{goal_of, Selects, IsOpen, AreOpen};
 ghost use Rattle.le_machine.specs.Turns.{Extends, Leads};
 
 use crate::goals::{Goal, OpenGoal, Search};
+use le_base::Copied;
 use le_derivations::{PathStep, proof_of};
 use le_proofs::Node;
 use std::alloc::{AllocError, Global};

@@ -3,6 +3,7 @@ ghost use Rattle.le_proofs.specs.Goals.{root_of, asked_terms};
 ghost use Rattle.le_machine.specs.Keeping.{goal_of};
 
 use crate::goals::Goal;
+use le_base::Copied;
 use le_terms::{Asked, Program, Sym, Term};
 use std::alloc::{AllocError, Global};
 

@@ -33,7 +33,7 @@ const ENDED: [(&[&str], &str, u32, u32, &str); 7] = [
     (&["rABrAB"], "rab", 0, 3, "S 03;S 03;S 03;S 03;"),
     // and does so often
     (&["rABrAB"], "rab", 0, 100_000, "S 00;S 00;S 00;S 00;"),
-    // the budget is spent behind two answers
+    // the budget is spent after two answers
     (&["pab", "pABpAB"], "paA", 1, 2, "!b 01;!b 02;S 02;S 02;"),
     // a variable in its own list
     (&["pAL"], "pAA", 1, 9, "D 01;D 01;D 01;D 01;"),
@@ -191,22 +191,54 @@ const GATHERED: [(&[&str], &str, u32, u32, &str); 13] = [
     (&["pABpAB"], "SABpaB", 1, 3, "S 03;S 03;S 03;S 03;"),
 ];
 
-// The clauses, the query, how many variables it asks for, and the nodes of the derivation of the first answer.
-const DERIVED: [(&[&str], &str, u32, &str); 8] = [
+// Programs worked out by hand: the clauses, the query, how many variables it asks for, the budget, what four calls of
+// `next` answer, and the nodes of the derivation of the first answer.
+const DERIVED: [(&[&str], &str, u32, &str, &str); 25] = [
     // a rule with two conditions
     (
         &["pab", "pac", "qcd", "rABpACqCB"],
         "raA",
         1,
+        "!d 04;D 04;D 04;D 04;",
         "u042rad;u020pac;u030qcd;",
     ),
+    // an answer with variables, and one that comes twice
+    (
+        &["pAB", "pAA"],
+        "pAB",
+        2,
+        "!AB 01;!AA 01;D 01;D 01;",
+        "u010pAB;",
+    ),
+    (
+        &["pab", "pab"],
+        "paA",
+        1,
+        "!b 01;!b 01;D 01;D 01;",
+        "u010pab;",
+    ),
     // a negation of an atom without clauses that unify
-    (&["pab", "qAB-pAB"], "qac", 0, "u021qac;npac;s00;"),
+    (
+        &["pab", "qAB-pAB"],
+        "qac",
+        0,
+        "! 03;D 03;D 03;D 03;",
+        "u021qac;npac;s00;",
+    ),
+    // a negation that fails for the first value and holds for the second
+    (
+        &["pab", "pac", "qab", "rABpAB-qAB"],
+        "raA",
+        1,
+        "!c 06;D 06;D 06;D 06;",
+        "u042rac;u020pac;nqac;s00;",
+    ),
     // a negation of a negation, whose atom has a proof
     (
         &["pab", "qAB-pAB", "rAB-qAB"],
         "rab",
         0,
+        "! 05;D 05;D 05;D 05;",
         "u031rab;nqab;s01;b02;P;u010pab;",
     ),
     // a negation of an atom whose clause has a negation that holds and an atom that fails
@@ -214,29 +246,140 @@ const DERIVED: [(&[&str], &str, u32, &str); 8] = [
         &["pab", "qAB-pBApBA", "rAB-qAB"],
         "rab",
         0,
+        "! 06;D 06;D 06;D 06;",
         "u031rab;nqab;s01;b02;L;s00;s00;",
     ),
+    // a negation in a negation's tree, as a `for all` has it: it holds, so there is no case against it
+    (
+        &["pab", "rAB-sAB", "sABpAC-tCA", "tAB-qAA"],
+        "rac",
+        0,
+        "! 08;D 08;D 08;D 08;",
+        "u021rac;nsac;s01;b03;s01;b01;P;u041tba;nqbb;s00;",
+    ),
     // a computed literal in a proof, and one of each kind in a tree
-    (&["p12", "qABpAB<AB"], "q1A", 1, "u022q12;u010p12;c<12;"),
+    (
+        &["p12", "qABpAB<AB"],
+        "q1A",
+        1,
+        "!2 03;D 03;D 03;D 03;",
+        "u022q12;u010p12;c<12;",
+    ),
     (
         &["qAB<AB<BA", "rAB-qAB"],
         "r12",
         0,
+        "! 05;D 05;D 05;D 05;",
         "u021r12;nq12;s01;b01;C;x;",
     ),
-    // a sum of three values
+    // an equation that binds, and a sum
+    (
+        &["pab"],
+        "=ABpaB",
+        1,
+        "!b 02;D 02;D 02;D 02;",
+        "c=bb;u010pab;",
+    ),
+    (&["pab"], "+A34", 1, "!7 01;D 01;D 01;D 01;", "c+734;"),
+    // the sum of three values, the greatest of them, and the number of none
     (
         &["pa1", "pa4", "pa2"],
         "SABpaB",
         1,
+        "!7 02;D 02;D 02;D 02;",
         "g7ASpaA;s03;b01;.;b02;.;b03;.;",
+    ),
+    (
+        &["pa1", "pa4", "pa2"],
+        "GABpaB",
+        1,
+        "!4 02;D 02;D 02;D 02;",
+        "g4AGpaA;s03;b01;.;b02;.;b03;.;",
+    ),
+    (
+        &["pa1"],
+        "NABpbB",
+        1,
+        "!0 02;D 02;D 02;D 02;",
+        "g0ANpbA;s00;",
+    ),
+    // equal values, and a result that is there before
+    (
+        &["pa3", "pa3"],
+        "S6BpaB",
+        0,
+        "! 02;D 02;D 02;D 02;",
+        "g6ASpaA;s02;b01;.;b02;.;",
     ),
     // a gather in a tree whose result fits, and one whose result doesn't
     (
         &["pa1", "qABN1CpACS2CpAC", "rAB-qAB"],
         "rab",
         0,
+        "! 07;D 07;D 07;D 07;",
         "u031rab;nqab;s01;b02;G;s01;b01;.;U;s01;b01;.;",
+    ),
+    // a negation in a sum, which holds in the first case and fails in the second
+    (
+        &["pa1", "pa4", "qa4", "sABpAB-qAB"],
+        "SABsaB",
+        1,
+        "!1 07;D 07;D 07;D 07;",
+        "g1ASsaA;s01;b04;s02;b01;L;s00;.;b02;P;u030qa4;",
+    ),
+    // a sum of sums
+    (
+        &["pb1", "pb4", "pc2", "qab", "qac", "rABqACSBDpCD"],
+        "SABraB",
+        1,
+        "!7 07;D 07;D 07;D 07;",
+        "g7ASraA;s01;b06;s02;b04;G;s02;b01;.;b02;.;.;b05;G;s01;b03;.;.;",
+    ),
+    // after an answer a negation whose search spends the budget, one whose search flounders, and one whose search has a sum
+    // that is too great
+    (
+        &["rab", "rac-pac", "pABpAB"],
+        "raA",
+        1,
+        "!b 01;S 99;S 99;S 99;",
+        "u010rab;",
+    ),
+    (
+        &["rab", "rac-pac", "pAB-qAC", "qab"],
+        "raA",
+        1,
+        "!b 01;F31 04;F31 04;F31 04;",
+        "u010rab;",
+    ),
+    (
+        &["rab", "rac-pac", "pABSCDqAD", "qaZ", "qa1"],
+        "raA",
+        1,
+        "!b 01;O31 05;O31 05;O31 05;",
+        "u010rab;",
+    ),
+    // after an answer a sum of a value that isn't bound, and a greatest value of none
+    (
+        &["rab", "racSABqaB", "qaA"],
+        "raA",
+        1,
+        "!b 01;F21 03;F21 03;F21 03;",
+        "u010rab;",
+    ),
+    (
+        &["rab", "racGABqaB"],
+        "raA",
+        1,
+        "!b 01;D 03;D 03;D 03;",
+        "u010rab;",
+    ),
+    // a negation, after whose search the clause's other variables are as they were
+    (
+        &["pab", "pac", "qbc", "rABpAB-sBApAC=CB", "sABqAD"],
+        "raA",
+        1,
+        "!c 11;D 11;D 11;D 11;",
+        "u044rac;u020pac;nsca;s01;b05;s00;u020pac;c=cc;",
     ),
 ];
 
@@ -308,9 +451,10 @@ fn values_are_gathered(rt: HostRuntime) -> Result<(), Fail> {
 #[test]
 fn answers_have_derivations(rt: HostRuntime) -> Result<(), Fail> {
     let alloc = rt.alloc();
-    for (rows, query, count, text) in DERIVED {
+    for (rows, query, count, text, nodes) in DERIVED {
         let program = program(alloc, rows, query, count)?;
-        assert_eq!(rt; derivation(alloc, &program)?.as_slice(), text.as_bytes());
+        assert_eq!(rt; answers(alloc, &program, 99)?.as_slice(), text.as_bytes());
+        assert_eq!(rt; derivation(alloc, &program)?.as_slice(), nodes.as_bytes());
     }
     Ok(())
 }

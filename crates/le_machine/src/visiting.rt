@@ -13,6 +13,7 @@ use crate::goals::{Found, Goal, Kind, Outcome, Search, Searches, SubSearch, Turn
 use crate::resolving::replaced_literal;
 use crate::searching::{begun, go_on, note, split};
 use crate::selecting::{kind, select};
+use le_base::Copied;
 use le_derivations::PathStep;
 use le_literals::{is_covered, is_ground_atom};
 use le_proofs::{Next, Node, Nodes};

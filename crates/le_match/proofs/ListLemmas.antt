@@ -4,7 +4,7 @@ use Rattle.std.proofs.Common.{◌≡◌, ℕ, nat_le, zero, suc, ◌+◌, ◌-�
 use Rattle.std.proofs.lemmas.List.{take-take, drop-drop, length-take}
 use Rattle.std.specs.List.{AllByRecursion}
 use Rattle.le_base.specs.declared.stop.Refusal.{Refusal}
-use Rattle.le_base.specs.declared.stop.Span.{Span}
+use Rattle.le_layout.specs.declared.span.Span.{Span}
 use Rattle.le_layout.specs.declared.token.Kind.{Kind}
 use Rattle.le_layout.specs.declared.token.Kind.TheVariants as kinds
 use Rattle.le_layout.specs.declared.token.Token.{Token}

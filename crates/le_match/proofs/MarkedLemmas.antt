@@ -23,7 +23,7 @@ star_end l at to h = ap until_star (slice_none l.tokens at to h)
 pub length_ended : (l : Layout) (at to : ℕ) → to ≤ at → marked_length l (slice_range l.tokens at to) ≡ None
 length_ended l at to h = ap (marked_length l) (slice_none l.tokens at to h)
 
--- by whether an asterisk stands at the front, another one behind it, and a phrase between them
+-- by whether an asterisk stands at the front, another one after it, and a phrase between them
 pub length_is : (l : Layout) (from to n : ℕ) (a b p : Bool) → from < to → to ≤ length l.tokens → n ≡ until_star (slice_range l.tokens (from + 1) to) → a ≡ is_star (token_of l from).kind → b ≡ nat_lt n (length (slice_range l.tokens (from + 1) to)) → p ≡ is_phrase l (take n (slice_range l.tokens (from + 1) to)) → marked_length l (slice_range l.tokens from to) ≡ cond (a && (b && p)) (Some n) None
 length_is l from to n a b p low high same ea eb ep =
     let rest = slice_range l.tokens (from + 1) to in
@@ -85,7 +85,7 @@ onto_more done more n ways e = ap (λ d. onto d ways) e ∙ each ways
 pub marked_walk : (l : Layout) (p : Part) (all ps : List Part) (ts : List Token) (t : Taken) → all ≡ p ∷ ps → t ≡ taken_by l p ts → marked_cuts l all ts ≡ marked_behind l ps ts t
 marked_walk l p all ps ts t e f = ap (λ x. marked_cuts l x ts) e ∙ marked_step l p ps ts ∙ ap (marked_behind l ps ts) (sym f)
 
--- the walk behind a word, and behind a slot
+-- the walk after a word, and after a slot
 pub behind_word_is : (l : Layout) (ps : List Part) (at to : ℕ) → at < to → marked_behind l ps (slice_range l.tokens at to) taken.Word ≡ marked_cuts l ps (slice_range l.tokens (at + 1) to)
 behind_word_is l ps at to h =
     let one : 1 ≡ at + 1 - at = omega arith in

@@ -17,12 +17,12 @@ use Rattle.le_layout.specs.declared.layout.Layout.{Layout}
 use Rattle.le_layout.specs.Characters.{is_ascii_sign, is_further_sign, is_word_character, may_be_quoted}
 use Rattle.le_layout.specs.Layout.{IsTokenIn}
 use Rattle.le_layout.specs.Pieces.{joins, goes_on, all_go_on, is_word as is_word_text}
-use Rattle.le_layout.specs.Words.{text_of, is_word, is_quote, is_this_word}
+use Rattle.le_layout.specs.Words.{text_of, spaced, is_word, is_quote, is_this_word}
 use Rattle.le_layout.specs.Written.{is_quotable, IsQuotable, IsWrittenAs}
 use Rattle.le_layout.proofs.PieceLemmas.{mark_no_word, quote_no_word}
 use Rattle.le_layout.proofs.WordLemmas.{goes_on-cases}
 use Rattle.le_layout.proofs.JoinLemmas.{cons_utf8, cons_chars}
-use Rattle.le_terms.specs.Tree.{IsNumber, IsDay}
+use Rattle.le_base.specs.Ranges.{IsNumber, IsDay}
 use Rattle.std.specs.Int.{IsInRange, is_in_range}
 use Rattle.jiff_core.specs.Calendar.{days_from_civil, days_in_month, IsCivilDate}
 use Rattle.jiff_core.proofs.SignedLemmas.{signed_arith}
@@ -32,7 +32,7 @@ use Rattle.le_values.specs.Days.{first_day, is_date, is_date_word, word_year, wo
 use Rattle.le_values.proofs.DayLemmas.{days_from_civil-first}
 use Rattle.le_scope.specs.declared.phrase.PhraseForm.{PhraseForm}
 use Rattle.le_scope.specs.declared.phrase.PhraseForm.TheVariants as forms
-use Rattle.le_scope.specs.Phrases.{joined, phrase_name}
+use Rattle.le_scope.specs.Phrases.{phrase_name}
 use Rattle.le_scope.specs.Simple.{is_plain_word, is_plain, is_name, begins_otherwise, is_indefinite, article, quote_form, article_form, value_form, word_form, name_form, constant_form, simple_form}
 use Rattle.le_match.specs.Terms.{first_of}
 
@@ -125,7 +125,7 @@ spaced_quotable [] h = none_quotable
 spaced_quotable (w ∷ ws) h =
     append_quotable (32 ∷ w) (flat_map (λ v. 32 ∷ v) ws) (cons_quotable 32 w (omega arith) refl (All-head IsQuotable w ws h)) (spaced_quotable ws (All-tail IsQuotable w ws h))
 
-joined_quotable : (ws : List (List ℕ)) → All IsQuotable ws → IsQuotable (joined ws)
+joined_quotable : (ws : List (List ℕ)) → All IsQuotable ws → IsQuotable (spaced ws)
 joined_quotable [] h = none_quotable
 joined_quotable (w ∷ ws) h = append_quotable w (flat_map (λ v. 32 ∷ v) ws) (All-head IsQuotable w ws h) (spaced_quotable ws (All-tail IsQuotable w ws h))
 

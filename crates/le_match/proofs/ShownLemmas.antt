@@ -25,7 +25,7 @@ pub glued_append : (g : Bool) (a b : List Piece) → glued_after g (a ++ b) ≡ 
 glued_append g [] b = refl
 glued_append g (p ∷ a) b = glued_append (glues p) a b
 
--- what is written behind what was written
+-- what is written after what was written
 pub writes_more : (l : Layout) (x y z : Line) (a b : List Piece) → Writes l x y a → Writes l y z b → Writes l x z (a ++ b)
 writes_more l x y z a b h k = record {
   text = k.text ∙ ap (λ g. y.text ++ text_from l g b) h.glued ∙ ap (λ s. s ++ text_from l (glued_after x.glued a) b) h.text

@@ -9,7 +9,8 @@ use Rattle.le_templates.specs.declared.part.Part.{Part}
 use Rattle.le_templates.specs.declared.part.Part.TheVariants.{Word, Slot}
 use Rattle.le_templates.specs.declared.part.Template.{Template}
 use Rattle.le_templates.specs.Table.{in_use}
-use Rattle.le_terms.specs.Tree.{Tree, constant, number, date, variable, nil, cell, IsNumber, IsDay}
+use Rattle.le_base.specs.Ranges.{IsNumber, IsDay}
+use Rattle.le_terms.specs.Tree.{Tree, constant, number, date, variable, nil, cell}
 use Rattle.le_terms.specs.Names.{HasNoRepeats}
 use Rattle.le_terms.specs.declared.program.Atom.{Atom}
 use Rattle.le_terms.specs.declared.program.Literal.{Literal}
@@ -43,7 +44,7 @@ AreTermsToSay names (tree ∷ trees) = IsTermToSay names tree × AreTermsToSay n
 
 -- ---- what the reader gives
 
--- an atom of a template, predefined or the user's, has one in use, with a term for each slot; the predicates behind them are the groups', which no sentence says
+-- an atom of a template, predefined or the user's, has one in use, with a term for each slot; the predicates after them are the groups', which no sentence says
 abbrev pub HasTemplate : List Template → Atom → Type 0
 HasTemplate users atom = atom.pred < 20 + length users → (in_use users atom.pred ≡ true) × HasTerms (parts_at users atom.pred) atom.args
 
@@ -68,11 +69,11 @@ pub record AreNamesToSay (names : List (List ℕ)) : Type 0 where
   pub distinct : HasNoRepeats names
   pub quotable : AllByRecursion IsQuotable names
 
--- names, and these with more behind them
+-- names, and these with more after them
 abbrev pub Grows : List (List ℕ) → List (List ℕ) → Type 0
 Grows before after = (more : List (List ℕ)) × (after ≡ before ++ more)
 
--- What is kept where terms were read from some names and a scope on: the names can be said still, and no name, new or old, of names or scope is lost; the terms can be said by the names behind, and their variables are those of the scope behind.
+-- What is kept where terms were read from some names and a scope on: the names can be said still, and no name, new or old, of names or scope is lost; the terms can be said by the names after, and their variables are those of the scope after.
 pub record AreRead (names : List (List ℕ)) (scope : ScopeState) (after : List (List ℕ)) (scope_after : ScopeState) (terms : List Tree) : Type 0 where
   pub names_ : AreNamesToSay after
   pub grows : Grows names after

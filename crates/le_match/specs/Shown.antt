@@ -26,7 +26,7 @@ piece_text layout opening = codes "*"
 piece_text layout closing = codes "*"
 piece_text layout (plain t) = if is_quote t.kind then 34 ∷ text_of layout t ++ 34 ∷ [] else text_of layout t
 
--- behind which tokens no space stands
+-- after which tokens no space stands
 abbrev pub is_open : Kind → Bool
 is_open kinds.Open = true
 is_open _ = false
@@ -37,7 +37,7 @@ is_close kinds.Close = true
 is_close kinds.Comma = true
 is_close _ = false
 
--- No space stands behind an opening asterisk and `[`.
+-- No space stands after an opening asterisk and `[`.
 abbrev pub glues : Piece → Bool
 glues opening = true
 glues closing = false
@@ -49,7 +49,7 @@ hugs opening = false
 hugs closing = true
 hugs (plain t) = is_close t.kind
 
--- the space before a piece, where the flag says that none stands behind what goes before
+-- the space before a piece, where the flag says that none stands after what goes before
 abbrev pub gap : Bool → Piece → List ℕ
 gap glued p = if glued || hugs p then [] else 32 ∷ []
 

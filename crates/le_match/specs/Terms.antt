@@ -60,7 +60,7 @@ term_found names scope term = Ok (record { value = term; names = names; scope = 
 abbrev pub variable_found : List (List ℕ) → ScopeState → ℕ → Result (Found Tree) Refusal
 variable_found names scope n = term_found names scope (variable n)
 
--- the variable that was introduced by this answer, with the scope behind it, or the refusal at the phrase's first token
+-- the variable that was introduced by this answer, with the scope after it, or the refusal at the phrase's first token
 abbrev pub by_introduction : List (List ℕ) → ScopeState → Token → Intro → Result (Found Tree) Refusal
 by_introduction names scope first (intro.New n) = variable_found names scope n
 by_introduction names scope first intro.Again = refused Again first
@@ -153,7 +153,7 @@ by_form users names scope query layout ts form = by_simple_form users names scop
 unfoldable pub term_of : List Template → List (List ℕ) → ScopeState → Bool → Layout → List Token → Result (Found Tree) Refusal
 term_of users names scope query layout ts = by_form users names scope query layout ts (phrase_form layout ts)
 
--- a term before what is found for the phrases behind it
+-- a term before what is found for the phrases after it
 abbrev pub onto_terms : Tree → Result (Found (List Tree)) Refusal → Result (Found (List Tree)) Refusal
 onto_terms term (Ok f) = Ok (record { value = term ∷ f.value; names = f.names; scope = f.scope })
 onto_terms term (Err refusal) = Err refusal
@@ -185,6 +185,6 @@ by_best users names scope query layout ts (best.One r) =
     atom_found r.pred (terms_of users names scope query layout (shares_of users ts r))
 by_best users names scope query layout ts (best.Two r s) = Err (ambiguous users layout ts r s)
 
--- The atom of a sentence in a scope, with the names and the scope behind it, or the refusal: where there is no reading or more than one best, and that of the first slot whose phrase is refused.
+-- The atom of a sentence in a scope, with the names and the scope after it, or the refusal: where there is no reading or more than one best, and that of the first slot whose phrase is refused.
 unfoldable pub atom_of : List Template → List (List ℕ) → ScopeState → Bool → Layout → List Token → Result (Found Atom) Refusal
 atom_of users names scope query layout ts = by_best users names scope query layout ts (best_of users layout ts)

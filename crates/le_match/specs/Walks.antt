@@ -27,12 +27,12 @@ use Rattle.le_terms.specs.declared.term.Sym.{Sym}
 use Rattle.le_terms.specs.declared.term.Sym.TheVariants.{Nil, Cons}
 use Rattle.le_match.specs.Readings.{marked_length, marked_cuts, is_marked, readings_by, readings_from, most_words, best_readings}
 
--- what stands behind the first token that is this word
+-- what stands after the first token that is this word
 abbrev pub behind_word : Layout → List ℕ → List Token → Option (List Token)
 behind_word layout w [] = None
 behind_word layout w (t ∷ ts) = if is_this_word layout w t then Some ts else behind_word layout w ts
 
--- what stands behind the first token, or behind the first that is the part's word
+-- what stands after the first token, or after the first that is the part's word
 abbrev pub behind_part : Layout → Part → List Token → Option (List Token)
 behind_part layout (Word w) ts = behind_word layout w ts
 behind_part layout (Slot s) [] = None
@@ -64,7 +64,7 @@ taken_count taken.Nothing = 0
 taken_count taken.Word = 1
 taken_count (taken.Slot n) = n + 2
 
--- the ways to share out the tokens behind those that a part takes
+-- the ways to share out the tokens after those that a part takes
 abbrev pub marked_behind : Layout → List Part → List Token → Taken → List (List ℕ)
 marked_behind layout parts ts taken.Nothing = []
 marked_behind layout parts ts taken.Word = marked_cuts layout parts (drop 1 ts)
@@ -95,7 +95,7 @@ abbrev pub readings_with : ℕ → ℕ → List (List ℕ) → ℕ → List Read
 readings_with pred words [] most found = found
 readings_with pred words (w ∷ ways) most found = take 2 ((if nat_lt most words then [] else found) ++ readings_by pred (w ∷ ways))
 
--- names with at most one more behind them
+-- names with at most one more after them
 pub record IsLonger (before after : List (List ℕ)) : Type 0 where
   pub front : take (length before) after ≡ before
   pub few : length after ≤ length before + 1
@@ -140,16 +140,16 @@ abbrev pub AreSpelled : List ListPart → List Sym → Type 0
 AreSpelled [] symbols = symbols ≡ []
 AreSpelled (p ∷ ps) symbols = (front : List Sym) × (back : List Sym) × (symbols ≡ front ++ back) × IsPartSpelled p front × AreSpelled ps back
 
--- whether no space stands behind pieces
+-- whether no space stands after pieces
 abbrev pub glued_after : Bool → List Piece → Bool
 glued_after glued [] = glued
 glued_after glued (p ∷ ps) = glued_after (glues p) ps
 
--- the space before a text, unless none stands before or behind
+-- the space before a text, unless none stands before or after
 abbrev pub space : Bool → Bool → List ℕ
 space glued hugs = if glued || hugs then [] else 32 ∷ []
 
--- a line with pieces behind those before
+-- a line with pieces after those before
 pub record Writes (layout : Layout) (before after : Line) (pieces : List Piece) : Type 0 where
   pub text : after.text ≡ before.text ++ text_from layout before.glued pieces
   pub glued : after.glued ≡ glued_after before.glued pieces

@@ -6,80 +6,17 @@ ghost use Rattle.le_match.specs.Readings.{cuts as cuts_of};
 ghost use Rattle.le_match.specs.Counts.{counts_of, total, IsTableOf, IsChosen, IsWayOn, is_slot};
 
 use crate::Lengths;
-use le_base::Span;
-use le_layout::Layout;
+use le_base::List;
+use le_layout::{Layout, Span};
 use le_scope::PhraseLengths;
 use le_templates::Part;
 use std::alloc::{AllocError, Global};
-use std::marker::Model;
 
-// Some ways to share tokens out among words and slots, which contracts see as a list of the lists of the
-// slots' lengths.
-#[derive(Drop)]
-pub(crate) struct Ways {
-    items: Vec<Lengths>,
-}
-
-impl Model for Ways {
-    ghost use Rattle.std.specs.Prelude.{ℕ, List};
-
-    ghost Value = { List (List ℕ) };
-
-    ghost view = { λ c. c.items.items };
-}
-
-impl Ways {
-    // These ways.
-    pub(crate) fn from_vec(items: Vec<Lengths>) -> Self
-        ensures { result ≡ items.items }
-    {
-        Ways { items }
-    }
-
-    // The vector of the ways.
-    pub(crate) fn into_vec(self) -> Vec<Lengths>
-        ensures { result.items ≡ self }
-    {
-        self.items
-    }
-
-    // The ways, borrowed.
-    pub(crate) fn as_slice(&self) -> &[Lengths]
-        ensures { result.now ≡ self.now }
-    {
-        self.items.as_slice()
-    }
-}
+// Some ways to share tokens out among words and slots, each as the lengths of its slots.
+pub(crate) type Ways = List<Lengths>;
 
 // At each place of a sentence how many ways there are from it on, of which two are counted at most.
-#[derive(Drop)]
-pub(crate) struct Counts {
-    items: Vec<u8>,
-}
-
-impl Model for Counts {
-    ghost use Rattle.std.specs.Prelude.{ℕ, List};
-
-    ghost Value = { List ℕ };
-
-    ghost view = { λ c. c.items.items };
-}
-
-impl Counts {
-    // These counts.
-    fn from_vec(items: Vec<u8>) -> Self
-        ensures { result ≡ items.items }
-    {
-        Counts { items }
-    }
-
-    // The counts, borrowed.
-    fn as_slice(&self) -> &[u8]
-        ensures { result.now ≡ self.now }
-    {
-        self.items.as_slice()
-    }
-}
+pub(crate) type Counts = List<u8>;
 
 // The first two ways to share the tokens of a sentence out among a template's words and slots, where the
 // lengths of phrases at each token are known. First the ways from each place on are counted up to two, from

@@ -4,8 +4,7 @@ ghost use Rattle.le_layout.specs.Layout.{IsLayout};
 ghost use Rattle.le_layout.specs.Words.{IsSpan, tokens_of};
 ghost use Rattle.le_match.specs.Walks.{behind_word, behind_part, may_fit};
 
-use le_base::Span;
-use le_layout::Layout;
+use le_layout::{Layout, Span};
 use le_templates::Part;
 
 // Whether a template's words stand among the tokens of a sentence in order, with a token for each slot.
@@ -24,7 +23,7 @@ pub(crate) fn may_fit(layout: &Layout, parts: &[Part], tokens: Span) -> bool
     true
 }
 
-// The place behind the token that a part takes: the next one, or the next that is the part's word.
+// The place after the token that a part takes: the next one, or the next that is the part's word.
 fn behind_part(layout: &Layout, part: &Part, from: u32, to: u32) -> Option<u32>
     requires layout { IsLayout layout.now }
     requires ordered { from ≤ to }
@@ -38,7 +37,7 @@ fn behind_part(layout: &Layout, part: &Part, from: u32, to: u32) -> Option<u32>
     }
 }
 
-// The place behind the next token that is this word.
+// The place after the next token that is this word.
 fn behind_word(layout: &Layout, word: &str, from: u32, to: u32) -> Option<u32>
     requires layout { IsLayout layout.now }
     requires ordered { from ≤ to }

@@ -61,8 +61,8 @@ pub fn every_term()
 {}
 
 /// What is read can be said. The term of a phrase has constants whose names quoted texts can hold, numbers and dates that
-/// a term may have, and variables of the scope behind it; the atom of a sentence is of a template in use, with such a term
-/// for each slot. The names before are a beginning of those behind. It does nothing.
+/// a term may have, and variables of the scope after it; the atom of a sentence is of a template in use, with such a term
+/// for each slot. The names before are a beginning of those after. It does nothing.
 pub fn read_can_be_said()
     ensures terms { TermsAreRead }
     ensures atoms { AtomsAreRead }

@@ -10,8 +10,8 @@ ghost use Rattle.le_match.specs.Terms.{member, members, member_found, symbols_of
 ghost use Rattle.le_match.specs.Walks.{IsLonger, IsLongerBy, IsLongerScope, IsPartSpelled, AreSpelled};
 
 use crate::phrases::item_term;
-use le_base::{Span, Stop};
-use le_layout::Layout;
+use le_base::Stop;
+use le_layout::{Layout, Span};
 use le_scope::{ListPart, Scope, list_parts};
 use le_templates::Templates;
 use le_terms::{Names, Sym, Term};

@@ -8,8 +8,7 @@ ghost use Rattle.le_match.specs.Walks.{taken_by, taken_count};
 
 use crate::Lengths;
 use crate::cuts::Ways;
-use le_base::Span;
-use le_layout::Layout;
+use le_layout::{Layout, Span};
 use le_scope::shape;
 use le_templates::Part;
 use std::alloc::{AllocError, Global};

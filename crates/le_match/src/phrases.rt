@@ -3,7 +3,8 @@ ghost use Rattle.le_base.specs.declared.stop.Stop.TheVariants.{Refused};
 ghost use Rattle.le_base.specs.Stop.{Gives, refusal_at};
 ghost use Rattle.le_layout.specs.Layout.{IsLayout};
 ghost use Rattle.le_layout.specs.Words.{IsSomeSpan, tokens_of, text_of};
-ghost use Rattle.le_terms.specs.Tree.{constant, number, date, IsNumber, IsDay};
+ghost use Rattle.le_base.specs.Ranges.{IsNumber, IsDay};
+ghost use Rattle.le_terms.specs.Tree.{constant, number, date};
 ghost use Rattle.le_terms.specs.Names.{number_of_name, entered};
 ghost use Rattle.le_scope.specs.Phrases.{IsFormInRange, is_simple_phrase, phrase_name as name_of};
 ghost use Rattle.le_scope.specs.Scopes.{ScopeState, place_of};
@@ -12,8 +13,8 @@ ghost use Rattle.le_match.specs.Terms.{term_of, simple_term as simple_term_of, b
 ghost use Rattle.le_match.specs.Walks.{IsLonger, IsLongerBy, IsLongerScope};
 
 use crate::lists::list_term;
-use le_base::{Code, Refusal, Span, Stop, Text};
-use le_layout::Layout;
+use le_base::{Code, Stop, Text};
+use le_layout::{Layout, Span};
 use le_scope::{Intro, PhraseForm, Scope, phrase_name, shape};
 use le_templates::Templates;
 use le_terms::{Names, Sym, Term};
@@ -150,8 +151,7 @@ pub(crate) fn refused(alloc: Global, layout: &Layout, code: Code, tokens: Span) 
     requires tokens { IsSomeSpan layout.now tokens }
     ensures { let first = first_of (tokens_of layout.now tokens) in result ≡ Refused (refusal_at code first.line first.column) }
 {
-    let first = layout.token(tokens.from);
-    Stop::Refused(Refusal::at(alloc, code, first.line, first.column))
+    layout.token(tokens.from).refused(alloc, code)
 }
 
 // The term of a number.

@@ -1,43 +1,9 @@
 ghost use Rattle.std.specs.Prelude.{◌≡◌};
 
-use std::marker::Model;
+use le_base::List;
 
-/// The lengths of the slots of a reading, in tokens, in order, which contracts see as a list.
-#[derive(Debug, Drop)]
-pub struct Lengths {
-    items: Vec<u32>,
-}
-
-impl Model for Lengths {
-    ghost use Rattle.std.specs.Prelude.{ℕ, List};
-
-    ghost Value = { List ℕ };
-
-    ghost view = { λ l. l.items.items };
-}
-
-impl Lengths {
-    /// The lengths of a vector.
-    pub fn from_vec(items: Vec<u32>) -> Self
-        ensures { result ≡ items.items }
-    {
-        Lengths { items }
-    }
-
-    /// The vector of the lengths.
-    pub fn into_vec(self) -> Vec<u32>
-        ensures { result.items ≡ self }
-    {
-        self.items
-    }
-
-    /// The lengths, borrowed.
-    pub fn as_slice(&self) -> &[u32]
-        ensures { result.now ≡ self.now }
-    {
-        self.items.as_slice()
-    }
-}
+/// The lengths of the slots of a reading, in tokens, in order.
+pub type Lengths = List<u32>;
 
 /// A reading of a sentence by a template.
 #[derive(Debug, Drop)]

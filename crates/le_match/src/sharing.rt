@@ -7,8 +7,7 @@ ghost use Rattle.le_match.specs.Walks.{IsPlace, share_of, total_size};
 
 use crate::Reading;
 use crate::marked::is_marked;
-use le_base::Span;
-use le_layout::Layout;
+use le_layout::{Layout, Span};
 use le_templates::{Part, Templates};
 use std::alloc::{AllocError, Global};
 

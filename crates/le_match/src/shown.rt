@@ -7,8 +7,8 @@ ghost use Rattle.le_match.specs.Walks.{Writes, space};
 
 use crate::Reading;
 use crate::sharing::{Place, places};
-use le_base::{Span, Text};
-use le_layout::{Kind, Layout};
+use le_base::Text;
+use le_layout::{Kind, Layout, Span};
 use le_templates::Templates;
 use std::alloc::{AllocError, Global};
 
@@ -40,7 +40,7 @@ pub(crate) fn shown(
     Ok(line.text)
 }
 
-// The text of the pieces so far, and whether no space stands behind the last of them.
+// The text of the pieces so far, and whether no space stands after the last of them.
 #[derive(Drop)]
 pub(crate) struct Line {
     text: Text,
@@ -89,7 +89,7 @@ fn put_token(layout: &Layout, line: &mut Line, at: u32) -> Result<(), AllocError
     Ok(())
 }
 
-// Puts a text, behind a space unless none stands before or behind. A space may stand behind it.
+// Puts a text, after a space unless none stands before or after. A space may stand after it.
 fn put(line: &mut Line, text: &str, hugs: bool) -> Result<(), AllocError>
     ensures text { OnOk result (line.new.text ≡ line.old.text ++ space line.old.glued hugs ++ text.now) }
     ensures glued { OnOk result (line.new.glued ≡ false) }
@@ -102,7 +102,7 @@ fn put(line: &mut Line, text: &str, hugs: bool) -> Result<(), AllocError>
     Ok(())
 }
 
-// Whether no space stands behind a token of this kind.
+// Whether no space stands after a token of this kind.
 fn is_open(kind: Kind) -> bool
     ensures { result ≡ is_open_kind kind }
 {

@@ -3,8 +3,8 @@ ghost use Rattle.le_layout.specs.Layout.{IsLayout};
 ghost use Rattle.le_layout.specs.Words.{IsSomeSpan};
 
 use crate::{BestReading, Reading, best, read, term};
-use le_base::{Span, Stop, Text};
-use le_layout::{Layout, scan};
+use le_base::{Stop, Text};
+use le_layout::{Layout, Span, scan};
 use le_scope::Scope;
 use le_templates::Templates;
 use le_terms::{Names, Sym, Term};

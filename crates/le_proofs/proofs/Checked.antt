@@ -110,7 +110,7 @@ module _ (program : Program) (are : AllByRecursion IsClause program.clauses) (to
       let same : record { leaf = from_above (step_to (length picked.before) atom child) parts.0.leaf; order = number ∷ ([] ++ parts.0.order) } ≡ proven = cc parts.2 in
       subst (λ (p : Proven). Proved p.leaf) same (clause-proves program (suc rank) seen goal picked atom clause it bindings is_clause low one form solved parts.0.leaf inner)
 
-  -- a computed literal, or a gather behind its tree
+  -- a computed literal, or a gather after its tree
   past-right : (places : List (List Node)) (reason : Reason) (before : List ℕ) (number : ℕ) (outcome : Outcome) (Fits : Bindings → Type 0) (Missed : Type 0) → Means goal.next Fits Missed outcome
       → ((bindings : Bindings) (leaf : Leaf) → Fits bindings → IsProved program (suc rank) (map_variables bindings ++ seen) (rest_by goal picked bindings).literals (rest_by goal picked bindings).terms leaf → Proved (from_above (step_past picked bindings reason) leaf))
       → (proven : Proven) → (computed_on program total proofs walk goal places picked reason before number outcome).answer ≡ Ok proven → Proved proven.leaf
@@ -321,7 +321,7 @@ module _ (program : Program) (are : AllByRecursion IsClause program.clauses) (to
       let P : Picked Literal → Atom → Type 0 = λ p a. AreWhole program (WholeBelow (suc rank) program) (RefutableBelow (suc rank) program) parts.0.branches seen p a goal.terms 1 parts.0.found in
       subst (Walked_ failed) same (record { whole = selects (λ p. OfAtom p.chosen.form (P p)) (subst (λ f. OfAtom f (P picked)) (sym form) all.whole); none = all.none })
 
-  -- the tree of the rest, behind a computed literal or a gather
+  -- the tree of the rest, after a computed literal or a gather
   rest-walked : (failed : Bool) (make : WholeTree → WholeTree) (number : ℕ) (nodes : List Node) (before : List ℕ) (outcome : Outcome) (Fits : Bindings → Type 0) (Missed : Type 0) → Means goal.next Fits Missed outcome
       → ((bindings : Bindings) (t : WholeTree) (all : List (List Tree)) → Fits bindings → IsWhole program (WholeBelow (suc rank) program) (RefutableBelow (suc rank) program) t (map_variables bindings ++ seen) (rest_by goal picked bindings).literals (rest_by goal picked bindings).terms all → Whole_ (make t) all)
       → (walked : Walked) → (computed_tree program total proofs walk failed goal picked make number nodes before outcome).answer ≡ Ok walked → Walked_ failed walked

@@ -199,7 +199,7 @@ sub-alike arity predicates seen to back goal line atom terms tied_atom tied_term
 
 module _ (program : Program) (arity : ℕ → ℕ) (predicates : ℕ) (valid : AllByRecursion (IsProgramClause arity predicates) program.clauses) (total fuel : ℕ)
     (proofs : Goal → List (List Node) → Replayed Proven) (walk : Bool → Goal → List Node → Replayed Walked) (proofs_come : ProofsCome program arity predicates fuel proofs) (trees_come : TreesCome program arity predicates fuel walk) where
-  -- a step, and what comes behind it
+  -- a step, and what comes after it
   onward-comes : (goal : Goal) (terms kept : List Tree) (by : ℕ → Tree) (firsts others : List Tree) → length others ≡ length firsts → (before middle behind_ : List Proof) (p : Proof) (number : ℕ) (step : Step) (orders : List ℕ) (new_goal : Goal) (new_places : List (List Node)) (proven : Proven)
       → (proofs new_goal new_places).answer ≡ Ok proven → (to back : ℕ → Tree)
       → terms_under (then_by step.unifier proven.leaf.by) (others ++ goal.terms) ≡ terms_under to (terms_under by (firsts ++ kept))
@@ -367,7 +367,7 @@ module _ (program : Program) (arity : ℕ → ℕ) (predicates : ℕ) (valid : A
           same-packed come.to come.back inner ms same,
         ))))))
 
-    -- the rest behind a literal that goes, with unifiers
+    -- the rest after a literal that goes, with unifiers
     past-comes : (form : Form) → picked.chosen.0.form ≡ form → (unifier other : Bindings) → Past arity predicates seen (lits pairs) kept goal alike chosen_literal literals-all unifier other
         → (then_sub : ℕ → Tree) → Factors by unifier then_sub → Runs program (WholeBelow rank program) steps (map_variables unifier ++ seen) (pairs_under (value_at unifier) (put_in_place picked [])) then_sub
         → (reason : Reason) (orders : List ℕ) (at : ℕ)

@@ -7,6 +7,7 @@ pub mod Apart
 pub mod Begins
 pub mod Below
 pub mod Checked
+pub mod Closed
 pub mod Coming
 pub mod Complete
 pub mod Counts
@@ -14,20 +15,25 @@ pub mod Courses
 pub mod Cutting
 pub mod Ends
 mod Examples
+pub mod FewVariables
 pub mod Growing
 pub mod Instances
 pub mod Invariant
 pub mod LeavesBelow
 pub mod Leftmost
 pub mod Numbering
+pub mod OwnVariables
 pub mod Picks
 pub mod Printed
 pub mod Same
 pub mod SameLeaves
 pub mod Scopes
+pub mod SearchNodes
+pub mod SearchVariables
 pub mod Shapes
 pub mod Sound
 pub mod Steps
+pub mod ToldApart
 pub mod Trees
 pub mod UnderWay
 pub mod Variants

@@ -84,7 +84,7 @@ module _ (program : Program) (are : AllByRecursion IsClause program.clauses) (ra
   abbrev Proved : Leaf → Type 0
   Proved leaf = IsProved program rank seen goal.literals goal.terms leaf
 
-  -- the leaves of a branch and of those behind it
+  -- the leaves of a branch and of those after it
   branch-leaves : (e : Next) (child : Child) (step : Step) (first : SearchTree) (more : ℕ → Branches) → AllByRecursion Proved (map (from_above step) (leaves (course_of first)))
       → ((k : ℕ) → AllByRecursion Proved (leaves (course_each (more k)))) → AllByRecursion Proved (leaves (course_each (branch_before e child step first more)))
   branch-leaves Done child step first more here there =
@@ -109,7 +109,7 @@ module _ (program : Program) (are : AllByRecursion IsClause program.clauses) (ra
         let binds : BindsBelow (goal.next + clause.vars) bindings = subst (AnswerBelow (goal.next + clause.vars)) solved (solution-below goal.next clause atom is atom-below) in
         right (resolvent_by goal picked clause bindings) left (seen_by seen clause (λ v. goal.next + v) bindings) (resolvent-below goal picked clause bindings is below means.all binds) (seen-after goal.next seen clause bindings is low binds)
 
-    -- a branch and those behind it are whole
+    -- a branch and those after it are whole
     branch-whole : (e : Next) (place from : ℕ) (clause : Clause) (bindings : Bindings) (first : SearchTree) (more : ℕ → Branches) → e ≡ (course_of first).ending → from ≤ place → NoneUnifies program atom from place
         → IsClauseOf program place clause → head_solution goal.next clause atom ≡ Some bindings
         → IsRight program rank (seen_by seen clause (λ v. goal.next + v) bindings) (resolvent_by goal picked clause bindings) first
@@ -314,7 +314,7 @@ module _ (results : (pred : ℕ) (terms : List Tree) → GivesGround (compute pr
   }
   computed-right atom form left (ends e) meant = record { each = tt; whole = λ done. absurd (stop-not-done e meant done) }
 
-  -- the leaves behind a subsidiary visit
+  -- the leaves after a subsidiary visit
   leaves-behind : (event : Event) (events others : List Event) → leaf_at event ≡ None → leaves_of (begun event events ++ others) ≡ leaves_of others
   leaves-behind event events others plain =
       ap (λ o. cons_option o (leaves_of (map seen_outside events ++ others))) plain

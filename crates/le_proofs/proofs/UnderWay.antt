@@ -121,7 +121,7 @@ module _ (program : Program) (frames : List Frame) (passed : List Event) where
       ∙ ap (resumed program frames) (one-more passed event (visit_children program path (length picked.before) atom all left)
       ∙ ap (λ es. after_events es (visit_children program path (length picked.before) atom all left)) (sym (append-nil (passed ++ event ∷ []))))
 
-  -- a branch and those behind it
+  -- a branch and those after it
   each-step : (child : Child) (step : Step) (first : SearchTree) (more : ℕ → Branches) (e : Next) → course_each (branch_before e child step first more) ≡ continued e (after_events (entered child.clause ∷ []) (course_above step (course_of first))) (λ k. course_each (more k))
   each-step child step first more Done = refl
   each-step child step first more Answer = refl

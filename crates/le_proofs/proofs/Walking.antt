@@ -332,7 +332,7 @@ module _ (program : Program) (arity : ℕ → ℕ) (predicates : ℕ) (valid : A
     abbrev Branch_ : WholeTree → ℕ → ℕ → List (List Tree) → Type 0
     Branch_ tree from number found = Branches program (WholeBelow rank program) (RefutableBelow rank program) (IsWhole program (WholeBelow rank program) (RefutableBelow rank program) tree) seen picked atom kept from number found
 
-    -- a branch by this clause, and those behind it
+    -- a branch by this clause, and those after it
     branch-comes : (number : ℕ) (tree : WholeTree) (branches : WholeBranches) (clause : Clause) (is : IsProgramClause arity predicates clause) (names : ℕ → ℕ) (unifier other : Bindings) (step : Resolves program seen atom number clause names unifier) → head_solution goal.next clause atom' ≡ Some other
         → (here there : List (List Tree)) → IsWhole program (WholeBelow rank program) (RefutableBelow rank program) tree (seen_by seen clause names unifier) (literals_under (value_at unifier) (put_in_place picked (literals_under (named names) clause.body))) (terms_under (value_at unifier) kept) here
         → length (tree_nodes tree) < fuel → (failed ≡ true → here ≡ []) → (others : List Child) → Each branches there others → Each (branch number tree branches) (here ++ there) (child_by goal chosen number clause other ∷ others)

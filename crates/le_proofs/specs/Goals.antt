@@ -51,7 +51,7 @@ is_open_negation (Gather fold result value atom) = false
 abbrev pub is_delayed : ℕ → Literal → Bool
 is_delayed version literal = version == 2 && is_open_negation literal.form
 
--- one of some things, with those before it and those behind it
+-- one of some things, with those before it and those after it
 pub record Picked (X : Type 0) : Type 0 where
   pub before : List X
   pub chosen : X

@@ -1,9 +1,9 @@
 -- The laws of the search and of the replay, for the functions whose contracts they are.
-use Rattle.std.specs.Prelude.{◌≡◌, ℕ, List, [], ◌∷◌, ◌++◌, length, map, slice_get, Some}
+use Rattle.std.specs.Prelude.{◌≡◌, ℕ, ◌+◌, ◌*◌, List, [], ◌∷◌, ◌++◌, length, map, slice_get, Some}
 use Rattle.std.specs.List.{AllByRecursion}
 use Rattle.le_terms.specs.Tree.{Tree}
 use Rattle.le_terms.specs.Variables.{canonical_of}
-use Rattle.le_terms.specs.Program.{IsProgram}
+use Rattle.le_terms.specs.Program.{HasVariablesBelow, IsProgram}
 use Rattle.le_terms.specs.declared.program.Literal.{Literal}
 use Rattle.le_terms.specs.declared.program.Program.{Program}
 use Rattle.le_proofs.specs.declared.node.Node.{Node}
@@ -11,7 +11,7 @@ use Rattle.le_proofs.specs.declared.next.Next.{Next}
 use Rattle.le_proofs.specs.declared.next.Next.TheVariants.{Answer, Done, Floundered, OutOfRange, Spent}
 use Rattle.le_proofs.specs.Goals.{Goal, selected, put_in_place, terms_under, asked_terms}
 use Rattle.le_proofs.specs.Proofs.{Proof, WholeTree, packed}
-use Rattle.le_proofs.specs.Derivations.{bare, proofs_nodes, certificate, certificate_of}
+use Rattle.le_proofs.specs.Derivations.{bare, proofs_nodes, nodes_terms, certificate, certificate_of}
 use Rattle.le_proofs.specs.Lloyd.{IsRefutation, WholeBelow, goal_variables, Admits, Whole}
 use Rattle.le_proofs.specs.Replay.{accepted, verdict_of}
 use Rattle.le_proofs.specs.Search.{grow_at, tree, search_of, answers_of, end_of}
@@ -84,6 +84,12 @@ abbrev pub DoneIsWhole : Type 0
 DoneIsWhole =
     (program : Program) (budget : ℕ) → IsProgram program → end_of program budget ≡ Done
     → (rank : ℕ) × (t : WholeTree) × Whole rank program program.query (asked_terms program.asked) t (map (λ leaf. leaf.terms) (answers_of program budget))
+
+-- The variables of an answer's values, and those of its values and the nodes of its derivation together, have numbers of at most 64 for each selection that the search may make, and 64 for the query.
+abbrev pub FewVariables : Type 0
+FewVariables =
+    (program : Program) (budget : ℕ) → IsProgram program
+    → AllByRecursion (λ leaf. HasVariablesBelow (65 + 64 * budget) (canonical_of leaf.terms) × HasVariablesBelow (65 + 64 * budget) (certificate_of leaf).values × HasVariablesBelow (65 + 64 * budget) (nodes_terms (certificate_of leaf).nodes)) (answers_of program budget)
 
 -- a visit may end so with so many selections left: no answer is an end, and the budget is spent only where none is left
 abbrev pub IsEnd : Next → ℕ → Type 0

@@ -49,7 +49,7 @@ abbrev pub unless : {X : Type 0} → Bool → ℕ → ℕ → Replayed X → Rep
 unless true node why more = faulty node why
 unless false node why more = more
 
--- the nodes behind so many parts
+-- the nodes after so many parts
 abbrev pub behind : ℕ → List Node → List Node
 behind zero nodes = nodes
 behind (suc parts) [] = []
@@ -73,7 +73,7 @@ pub record Proven : Type 0 where
   pub leaf : Leaf
   pub order : List ℕ
 
--- what the replay of a tree gives: the terms at its success leaves, the tree that the nodes should be, the numbers of the nodes of proofs in it, and the nodes behind it
+-- what the replay of a tree gives: the terms at its success leaves, the tree that the nodes should be, the numbers of the nodes of proofs in it, and the nodes after it
 pub record Walked : Type 0 where
   pub found : List (List Tree)
   pub tree : WholeTree
@@ -144,7 +144,7 @@ module _ (program : Program) (total : ℕ) where
   number_at nodes = suc total - length nodes
 
   module _ (proofs : Goal → List (List Node) → Replayed Proven) (walk : Bool → Goal → List Node → Replayed Walked) where
-    -- the rest of a proof behind a step
+    -- the rest of a proof after a step
     abbrev pub onward : ℕ → Step → List ℕ → Goal → List (List Node) → Replayed Proven
     onward number step before goal places = and_on (proofs goal places) (λ rest. gives (record { leaf = from_above step rest.leaf; order = number ∷ (before ++ rest.order) }))
 
@@ -183,11 +183,11 @@ module _ (program : Program) (total : ℕ) where
     proofs_at goal places None = gives (record { leaf = empty_leaf goal.terms 0; order = [] })
     proofs_at goal places (Some picked) = proof_nodes_at goal places picked (nodes_at (length picked.before) places)
 
-    -- a tree once the tree of the rest is walked, behind the numbers of what came before
+    -- a tree once the tree of the rest is walked, after the numbers of what came before
     abbrev pub above : (WholeTree → WholeTree) → List ℕ → Replayed Walked → Replayed Walked
     above make before more = and_on more (λ rest. gives (record { found = rest.found; tree = make rest.tree; order = before ++ rest.order; rest = rest.rest }))
 
-    -- a branch, and those behind it
+    -- a branch, and those after it
     abbrev pub branch_before : ℕ → Walked → Replayed WalkedEach → Replayed WalkedEach
     branch_before clause first more = and_on more (λ others. gives (record {
       found = first.found ++ others.found;
@@ -374,7 +374,7 @@ abbrev pub verdict_by : Bool → List Tree → Option Fault → Verdict
 verdict_by true values other = accepted values
 verdict_by false values other = other_at other
 
--- the verdict once the replay has come through: nodes behind the proofs, and then the first literal that isn't the one that it should be
+-- the verdict once the replay has come through: nodes after the proofs, and then the first literal that isn't the one that it should be
 abbrev pub compared : List Node → List Node → Proven → Verdict
 compared nodes [] proven =
     let should : Certificate = certificate_of proven.leaf in

@@ -44,7 +44,7 @@ module _ (program : Program) where
   abbrev pub gather_tree : Asking → Tree → SearchTree
   gather_tree asking value = tree program (sub_goal asking.goal asking.picked.chosen.line asking.atom (value ∷ [])) asking.left
 
-  -- the visit of a negation's goal behind that of its atom, by how that ended and its first success leaf
+  -- the visit of a negation's goal after that of its atom, by how that ended and its first success leaf
   abbrev pub by_ending : Asking → Course → Next → Course
   by_ending asking sub Done =
       course_above (step_past asking.picked [] (failure_shown asking.atom (whole_of (negation_tree asking)))) (visit program (rest_goal asking.goal asking.picked) sub.left)

@@ -1,4 +1,4 @@
-ghost use Rattle.le_proofs.specs.Laws.{TreeUnfolds, SelectsLeftmost, SearchesEnd, AnswersAdmitted, DoneIsWhole, AcceptsExactly, AnswersAccepted, AdmittedOnce, RefutationsAgree, TreesAgree, AdmittedAtLeaf, DoneHasAll};
+ghost use Rattle.le_proofs.specs.Laws.{TreeUnfolds, SelectsLeftmost, SearchesEnd, AnswersAdmitted, DoneIsWhole, AcceptsExactly, AnswersAccepted, AdmittedOnce, RefutationsAgree, TreesAgree, AdmittedAtLeaf, DoneHasAll, FewVariables};
 
 /// The search tree of a goal is that of its selected literal, with the search trees of what becomes of the
 /// goal below it. It does nothing.
@@ -70,4 +70,10 @@ pub fn admitted_at_leaf()
 /// nothing.
 pub fn done_has_all()
     ensures { DoneHasAll }
+{}
+
+/// The variables of an answer's values and of its derivation are numbered by first occurrence, and there are
+/// at most 64 for each selection of the budget and 64 for the query. It does nothing.
+pub fn few_variables()
+    ensures { FewVariables }
 {}

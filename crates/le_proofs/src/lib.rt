@@ -10,8 +10,8 @@ mod node;
 pub use derivation::{Derivation, Nodes};
 pub use laws::{
     accepted_exactly, admitted_at_leaf, admitted_once, answers_accepted, answers_admitted,
-    done_has_all, done_is_whole, refutations_agree, searches_end, selects_leftmost, tree_unfolds,
-    trees_agree,
+    done_has_all, done_is_whole, few_variables, refutations_agree, searches_end, selects_leftmost,
+    tree_unfolds, trees_agree,
 };
 pub use next::Next;
 pub use node::Node;

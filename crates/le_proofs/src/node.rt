@@ -1,6 +1,4 @@
-ghost use Rattle.std.specs.Prelude.{◌≡◌, IfOk};
-
-use le_base::FoldKind;
+use le_base::{Copied, FoldKind};
 use le_terms::{Atom, Term};
 use std::alloc::{AllocError, Global};
 
@@ -63,11 +61,8 @@ pub enum Node {
     Dead,
 }
 
-impl Node {
-    /// An equal node.
-    pub fn copy(&self, alloc: Global) -> Result<Self, AllocError>
-        ensures { IfOk result (λ node. node ≡ self.now) }
-    {
+impl Copied for Node {
+    fn copy(&self, alloc: Global) -> Result<Self, AllocError> {
         match self {
             Node::Use {
                 clause,

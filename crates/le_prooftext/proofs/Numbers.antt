@@ -9,7 +9,7 @@ use Rattle.std.specs.List.{list_all}
 use Rattle.std.specs.Str.{bytes_eq}
 use Rattle.std.specs.Str.Parse.{digits_value}
 use Rattle.std.proofs.lemmas.Option.{option_and_then_some, cond_some}
-use Rattle.le_terms.specs.Tree.{IsNumber, IsDay}
+use Rattle.le_base.specs.Ranges.{IsNumber, IsDay}
 use Rattle.le_values.proofs.NumberLemmas.{numerals, written}
 use Rattle.le_values.specs.Numbers.{greatest_number, is_number, is_number_word, number_of, word_value}
 use Rattle.std.proofs.lemmas.Int.{ints}

@@ -138,7 +138,7 @@ pub symbols-in_range : (symbols : List Sym) → AllByRecursion IsWord (map (λ s
 symbols-in_range [] h = tt
 symbols-in_range (s ∷ symbols) h = (h.0, symbols-in_range symbols h.1)
 
--- what is left behind a place, in the form in which a slice to the end has it
+-- what is left after a place, in the form in which a slice to the end has it
 pub to_end : {X : Type 0} (xs : List X) (at m : ℕ) → length xs ≤ m + at → take m (drop at xs) ≡ drop at xs
 to_end xs at m h = take_all m (drop at xs) (omega (arith, length-drop at xs))
 

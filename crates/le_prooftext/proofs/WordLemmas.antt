@@ -11,7 +11,7 @@ use Rattle.le_base.specs.declared.stop.FoldKind.{FoldKind}
 use Rattle.le_base.specs.declared.stop.FoldKind.TheVariants.{Sum, Number, Greatest}
 use Rattle.le_terms.specs.declared.term.Sym.{Sym}
 use Rattle.le_terms.specs.declared.term.Sym.TheVariants.{Name, Num, Day, Var, Nil, Cons}
-use Rattle.le_terms.specs.Tree.{IsNumber, IsDay}
+use Rattle.le_base.specs.Ranges.{IsNumber, IsDay}
 use Rattle.le_values.proofs.NumberLemmas.{numerals}
 use Rattle.le_values.specs.Numbers.{number_of}
 use Rattle.std.proofs.lemmas.Int.{ints}

@@ -5,7 +5,7 @@ use Rattle.le_base.specs.declared.stop.FoldKind.{FoldKind}
 use Rattle.le_base.specs.declared.stop.FoldKind.TheVariants.{Sum, Number, Greatest}
 use Rattle.le_terms.specs.declared.term.Sym.{Sym}
 use Rattle.le_terms.specs.declared.term.Sym.TheVariants.{Name, Num, Day, Var, Nil, Cons}
-use Rattle.le_terms.specs.Tree.{IsNumber, IsDay}
+use Rattle.le_base.specs.Ranges.{IsNumber, IsDay}
 use Rattle.le_prooftext.specs.declared.word.NodeKind.{NodeKind}
 use Rattle.le_prooftext.specs.declared.word.NodeKind.TheVariants as kind
 use Rattle.le_prooftext.specs.declared.word.Word.{Word}

@@ -1,20 +1,16 @@
 ghost use Rattle.std.specs.Prelude.{◌≡◌, IfSome, IsTrue};
 ghost use Rattle.std.specs.Fmt.{signed_decimal};
 ghost use Rattle.std.specs.Str.{bytes_eq};
-ghost use Rattle.le_terms.specs.Tree.{IsDay, IsNumber};
+ghost use Rattle.le_base.specs.Ranges.{IsNumber, IsDay};
 ghost use Rattle.le_prooftext.specs.Reading.{day_of, is_day, natural_of, small_of, whole_of};
 
 use itoa::Buffer;
+use le_base::{FIRST_DAY, LAST_DAY};
 use le_values::number_of;
 use std::str;
 
 /// The greatest number of a name, a variable, a predicate or a clause, and the greatest count.
 const GREATEST_SMALL: u64 = 4_294_967_295;
-
-/// The first and the last day, counted from 1970-01-01.
-const FIRST_DAY: i64 = -719_162;
-
-const LAST_DAY: i64 = 2_932_896;
 
 // The number that some bytes spell in decimal digits without leading zeros.
 pub(crate) fn natural_of(bytes: &[u8]) -> Option<u64>

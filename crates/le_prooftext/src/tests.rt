@@ -1,4 +1,5 @@
 use crate::{count_of, node_of, parse, write};
+use le_base::Copied;
 use le_proofs::{Derivation, Node, Nodes};
 use le_terms::{Atom, Sym, Term, Terms};
 use std::alloc::{AllocError, Global};

@@ -4,7 +4,7 @@ use Rattle.std.specs.List.{list_all, All}
 use Rattle.std.proofs.lemmas.Bool.{and_parts, cond-true, le-leb}
 use Rattle.std.proofs.lemmas.List.{append-nil, drop-drop, drop_at, length-append, length-drop, take-append-drop, take_at}
 use Rattle.std.proofs.lemmas.List.Elements.{All-append, All-cons, All-nil}
-use Rattle.le_base.specs.declared.stop.Span.{Span}
+use Rattle.le_layout.specs.declared.span.Span.{Span}
 use Rattle.le_layout.specs.declared.token.Kind.{Kind}
 use Rattle.le_layout.specs.declared.token.Kind.TheVariants as kinds
 use Rattle.le_layout.specs.declared.token.Token.{Token}

@@ -9,9 +9,9 @@ use Rattle.le_layout.specs.declared.token.Kind.{Kind}
 use Rattle.le_layout.specs.declared.token.Kind.TheVariants as kinds
 use Rattle.le_layout.specs.declared.token.Token.{Token}
 use Rattle.le_layout.specs.declared.layout.Layout.{Layout}
-use Rattle.le_layout.specs.Words.{text_of, same_word, is_word, is_quote, is_this_word}
+use Rattle.le_layout.specs.Words.{text_of, same_word, is_word, is_quote, is_this_word, not_the_case, the_case}
 use Rattle.le_scope.specs.declared.phrase.PhraseForm.TheVariants.{Quote, A, The, Which}
-use Rattle.le_scope.specs.Simple.{is_plain_word, is_plain, is_name, begins_with, not_the_case, the_case, is_determiner, begins_otherwise, is_indefinite, article, quote_form, article_form, name_form, constant_form, simple_form, is_simple_phrase}
+use Rattle.le_scope.specs.Simple.{is_plain_word, is_plain, is_name, begins_with, is_determiner, begins_otherwise, is_indefinite, article, quote_form, article_form, name_form, constant_form, simple_form, is_simple_phrase}
 use Rattle.le_scope.proofs.RunLemmas.{run_short}
 use Rattle.le_scope.specs.Lengths.{plain_run, lengths, is_length, most_words, simple_lengths}
 

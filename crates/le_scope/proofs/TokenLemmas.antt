@@ -9,7 +9,7 @@ use Rattle.le_layout.specs.Words.{text_of, token_of, is_quote, is_this_word}
 use Rattle.le_layout.proofs.SpanLemmas.{slice_more, slice_none}
 use Rattle.le_scope.specs.declared.phrase.PhraseForm.{PhraseForm}
 use Rattle.le_scope.specs.declared.phrase.PhraseForm.TheVariants.{Quote, Constant}
-use Rattle.le_scope.specs.Phrases.{is_name, is_plain, begins_with, article, quote_form, word_form, name_form, article_form, joined, phrase_name, simple_form}
+use Rattle.le_scope.specs.Phrases.{is_name, is_plain, begins_with, article, quote_form, word_form, name_form, article_form, simple_form}
 
 -- the tokens from one place up to another
 abbrev pub span : Layout → ℕ → ℕ → List Token
@@ -23,30 +23,6 @@ span_none l at to h = slice_none l.tokens at to h
 
 pub span_one : (l : Layout) (at to : ℕ) → to - at ≡ 1 → to ≤ length l.tokens → span l at to ≡ token_of l at ∷ []
 span_one l at to one high = span_more l at to (omega (arith, one)) high ∙ ap (λ ts. token_of l at ∷ ts) (span_none l (at + 1) to (omega (arith, one)))
-
--- ---- names
-
-abbrev pub spaced : List (List ℕ) → List ℕ
-spaced ws = flat_map (λ v. 32 ∷ v) ws
-
--- the texts of the tokens from one place up to another
-abbrev pub texts : Layout → ℕ → ℕ → List (List ℕ)
-texts l from to = map (text_of l) (span l from to)
-
-pub name_first : (l : Layout) (from to : ℕ) (text : List ℕ) → from < to → to ≤ length l.tokens → text ≡ text_of l (token_of l from) → text ++ spaced (texts l (from + 1) to) ≡ joined (texts l from to)
-name_first l from to text low high e =
-    ap (λ t. t ++ spaced (texts l (from + 1) to)) e ∙ sym (ap (λ ts. joined (map (text_of l) ts)) (span_more l from to low high))
-
-pub name_more : (l : Layout) (at to : ℕ) (old mid new word all : List ℕ) → at < to → to ≤ length l.tokens → old ++ spaced (texts l at to) ≡ all → mid ≡ old ++ 32 ∷ [] → new ≡ mid ++ word → word ≡ text_of l (token_of l at) → new ++ spaced (texts l (at + 1) to) ≡ all
-name_more l at to old mid new word all low high h m n w =
-    ap (λ t. t ++ spaced (texts l (at + 1) to)) (n ∙ ap (λ t. t ++ word) m ∙ append_assoc old (32 ∷ []) word)
-    ∙ append_assoc old (32 ∷ word) (spaced (texts l (at + 1) to))
-    ∙ ap (λ t. old ++ 32 ∷ (t ++ spaced (texts l (at + 1) to))) w
-    ∙ sym (ap (λ ts. old ++ spaced (map (text_of l) ts)) (span_more l at to low high))
-    ∙ h
-
-pub name_end : (l : Layout) (at to : ℕ) (text all : List ℕ) → to ≤ at → text ++ spaced (texts l at to) ≡ all → text ≡ all
-name_end l at to text all h e = sym (append-nil text) ∙ sym (ap (λ ts. text ++ spaced (map (text_of l) ts)) (span_none l at to h)) ∙ e
 
 -- ---- plain words
 
@@ -100,10 +76,6 @@ article_at l from to b o low high n a =
 
 pub length_span : (l : Layout) (from to : ℕ) → to ≤ length l.tokens → length (span l from to) ≡ to - from
 length_span l from to high = omega (arith, length-take (to - from) (drop from l.tokens), length-drop from l.tokens)
-
-pub no_name : (l : Layout) (from to : ℕ) → to ≤ from → [] ≡ phrase_name l (span l from to)
-unfolding phrase_name
-no_name l from to h = sym (ap (phrase_name l) (span_none l from to h))
 
 pub no_form : (l : Layout) (from to : ℕ) → to ≤ from → None ≡ simple_form l (span l from to)
 unfolding simple_form is_name

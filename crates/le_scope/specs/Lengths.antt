@@ -3,9 +3,9 @@ use Rattle.std.specs.Prelude.{ℕ, zero, suc, ◌+◌, Bool, ◌&&◌, nat_le, m
 use Rattle.std.specs.Option.{is_some}
 use Rattle.le_layout.specs.declared.token.Token.{Token}
 use Rattle.le_layout.specs.declared.layout.Layout.{Layout}
-use Rattle.le_layout.specs.Words.{is_quote}
+use Rattle.le_layout.specs.Words.{is_quote, not_the_case, the_case}
 use Rattle.le_scope.specs.declared.lengths.PhraseLengths.{PhraseLengths}
-use Rattle.le_scope.specs.Simple.{is_plain, article, is_determiner, begins_with, not_the_case, the_case}
+use Rattle.le_scope.specs.Simple.{is_plain, article, is_determiner, begins_with}
 use Rattle.le_scope.specs.Lists.{is_open, first_row}
 
 -- how many plain words stand at the front, one after another

@@ -1,6 +1,6 @@
 -- The symbols of a list's term, in the order in which its tokens give them: this project's profile.
 use Rattle.std.specs.Prelude.{◌≡◌, ℕ, ◌+◌, ◌-◌, ◌<◌, ◌≤◌, nat_le, Bool, true, false, not, ◌||◌, if◌then◌else◌, Option, Some, None, List, [], ◌∷◌, ◌++◌, length}
-use Rattle.le_base.specs.declared.stop.Span.{Span}
+use Rattle.le_layout.specs.declared.span.Span.{Span}
 use Rattle.le_layout.specs.declared.token.Kind.{Kind}
 use Rattle.le_layout.specs.declared.token.Kind.TheVariants as kinds
 use Rattle.le_layout.specs.declared.token.Token.{Token}

@@ -3,13 +3,12 @@ use Rattle.std.specs.Prelude.{ℕ, ◌==◌, Bool, false, ◌&&◌, if◌then◌
 use Rattle.std.specs.Option.{option_or, is_some}
 use Rattle.le_layout.specs.declared.token.Token.{Token}
 use Rattle.le_layout.specs.declared.layout.Layout.{Layout}
-use Rattle.le_layout.specs.Words.{text_of}
-use Rattle.le_values.specs.Numbers.{IsNumber}
-use Rattle.le_values.specs.Days.{IsDay}
+use Rattle.le_layout.specs.Words.{text_of, spaced}
+use Rattle.le_base.specs.Ranges.{IsNumber, IsDay}
 use Rattle.le_scope.specs.declared.phrase.PhraseForm.{PhraseForm}
 use Rattle.le_scope.specs.declared.phrase.PhraseForm.TheVariants.{Number, Day, List as ListForm}
 use Rattle.le_scope.specs.Lists.{is_open, first_row}
-unfoldable pub use Rattle.le_scope.specs.Simple.{connectives, particles, determiners, is_plain_word, is_plain, is_name, begins_with, not_the_case, the_case, is_determiner, has_determiner, begins_otherwise, is_indefinite, article, quote_form, article_form, value_form, word_form, name_form, constant_form, simple_form, is_simple_phrase}
+unfoldable pub use Rattle.le_scope.specs.Simple.{connectives, particles, determiners, is_plain_word, is_plain, is_name, begins_with, is_determiner, has_determiner, begins_otherwise, is_indefinite, article, quote_form, article_form, value_form, word_form, name_form, constant_form, simple_form, is_simple_phrase}
 
 -- whether the tokens are one list: the first of them is an opening bracket, and the list that begins there has all of them
 abbrev pub is_list_phrase : Layout → List Token → Bool
@@ -34,11 +33,6 @@ IsFormInRange (Number n) = IsNumber n
 IsFormInRange (Day day) = IsDay day
 IsFormInRange _ = Unit {0}
 
--- texts joined by one space
-abbrev pub joined : List (List ℕ) → List ℕ
-joined [] = []
-joined (w ∷ ws) = w ++ flat_map (λ v. 32 ∷ v) ws
-
 -- the name that tokens spell: their texts joined by one space
 unfoldable pub phrase_name : Layout → List Token → List ℕ
-phrase_name layout ts = joined (map (text_of layout) ts)
+phrase_name layout ts = spaced (map (text_of layout) ts)

@@ -5,7 +5,7 @@ use Rattle.std.specs.Option.{option_or, is_some}
 use Rattle.std.specs.Str.{bytes_eq}
 use Rattle.le_layout.specs.declared.token.Token.{Token}
 use Rattle.le_layout.specs.declared.layout.Layout.{Layout}
-use Rattle.le_layout.specs.Words.{text_of, same_word, is_word, is_quote, is_this_word}
+use Rattle.le_layout.specs.Words.{text_of, same_word, is_word, is_quote, is_this_word, not_the_case, the_case}
 use Rattle.le_scope.specs.declared.phrase.PhraseForm.{PhraseForm}
 use Rattle.le_values.specs.Numbers.{number_of}
 use Rattle.le_values.specs.Days.{day_of}
@@ -40,14 +40,6 @@ begins_with layout (t ∷ ts) (w ∷ ws) = is_this_word layout w t && begins_wit
 -- the words that no constant begins with, ASCII case ignored
 abbrev pub determiners : List (List ℕ)
 determiners = codes "the" ∷ codes "a" ∷ codes "an" ∷ codes "another" ∷ codes "some" ∷ codes "any" ∷ codes "every" ∷ []
-
--- the words that open a negation
-abbrev pub not_the_case : List (List ℕ)
-not_the_case = codes "it" ∷ codes "is" ∷ codes "not" ∷ codes "the" ∷ codes "case" ∷ codes "that" ∷ []
-
--- the words that mark the second block of a `for all`
-abbrev pub the_case : List (List ℕ)
-the_case = codes "it" ∷ codes "is" ∷ codes "the" ∷ codes "case" ∷ codes "that" ∷ []
 
 -- whether a token is one of these words
 unfoldable pub is_determiner : Layout → Token → Bool

@@ -4,7 +4,7 @@ ghost use Rattle.le_scope.specs.Parts.{parts_of_list, parts_of_phrase, term_coun
 ghost use Rattle.le_layout.specs.declared.token.Token.{Token};
 ghost use Rattle.le_layout.specs.declared.layout.Layout.{Layout};
 ghost use Rattle.le_layout.specs.Words.{text_of, is_word, tokens_of};
-ghost use Rattle.le_base.specs.declared.stop.Span.{Span};
+ghost use Rattle.le_layout.specs.declared.span.Span.{Span};
 ghost use Rattle.le_values.specs.Numbers.{number_of};
 ghost use Rattle.le_values.specs.Days.{day_of};
 ghost use Rattle.le_scope.specs.declared.phrase.PhraseForm.TheVariants.{Number, Day, List as ListForm};

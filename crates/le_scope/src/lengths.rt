@@ -6,9 +6,9 @@ ghost use Rattle.le_scope.specs.Lists.{first_row};
 ghost use Rattle.le_scope.specs.Lengths.{plain_run, is_length, most_words, simple_lengths as lengths_of, phrase_lengths as all_lengths, lengths_from};
 
 use crate::lists::{ListLengths, count_at, is_open, row_at};
-use crate::phrase::{NOT_THE_CASE, THE_CASE, article, begins_with, is_determiner, is_plain};
-use le_base::Span;
-use le_layout::Layout;
+use crate::phrase::{article, begins_with, is_determiner, is_plain};
+use le_base::MOST_PHRASE_WORDS;
+use le_layout::{Layout, NOT_THE_CASE, Span, THE_CASE};
 use std::alloc::{AllocError, Global};
 
 /// The lengths of the phrases that begin at one token: each number from the least to the greatest, and
@@ -92,7 +92,7 @@ fn simple_lengths(layout: &Layout, at: u32, to: u32, run: u32) -> PhraseLengths
         return lengths(1, 1);
     }
     if article(layout, at).is_some() {
-        return lengths(2, least_of(12, run) + 1);
+        return lengths(2, least_of(MOST_PHRASE_WORDS, run) + 1);
     }
     if is_determiner(layout, at) {
         return lengths(1, 0);
@@ -135,6 +135,6 @@ fn most_words(layout: &Layout, at: u32, to: u32) -> u32
     } else if begins_with(layout, tokens, &NOT_THE_CASE) {
         5
     } else {
-        12
+        MOST_PHRASE_WORDS
     }
 }

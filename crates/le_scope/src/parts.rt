@@ -10,8 +10,7 @@ ghost use Rattle.le_scope.specs.Lists.{until_end};
 ghost use Rattle.le_scope.specs.Parts.{parts_of_list, IsPartOf, passed, bar_passed, closes_next, part_at, opened_after, inside_after, with_part};
 
 use crate::lists::{ends_item, is_close, is_open};
-use le_base::Span;
-use le_layout::{Kind, Layout};
+use le_layout::{Kind, Layout, Span};
 use std::alloc::{AllocError, Global};
 
 /// A symbol of a list's term.

@@ -7,8 +7,8 @@ ghost use Rattle.le_scope.specs.Phrases.{phrase_form, simple_form, name_form, wo
 
 use crate::lengths::phrase_lengths;
 use crate::lists::is_open;
-use le_base::{Span, Text};
-use le_layout::Layout;
+use le_base::{MOST_PHRASE_WORDS, Text};
+use le_layout::{Layout, NOT_THE_CASE, Span, THE_CASE};
 use le_values::{day_of, number_of};
 use std::alloc::{AllocError, Global};
 
@@ -71,20 +71,13 @@ pub fn shape(alloc: Global, layout: &Layout, tokens: Span) -> Result<Option<Phra
 
 /// The name that some tokens spell: their texts joined by one space, or the empty text where there is no
 /// token. The layout is a valid one and has the tokens.
+#[tactic(auto, unfolding(crate::specs::Phrases::phrase_name))]
 pub fn phrase_name(alloc: Global, layout: &Layout, tokens: Span) -> Result<Text, AllocError>
     requires layout { IsLayout layout.now }
     requires tokens { IsSpan layout.now tokens }
     ensures { IfOk result (λ name. name ≡ name_of layout.now (tokens_of layout.now tokens)) }
 {
-    if tokens.to <= tokens.from {
-        return Ok(Text::new(alloc));
-    }
-    let mut name = Text::of(alloc, layout.word(tokens.from))?;
-    for at in tokens.from + 1..tokens.to {
-        name.push_str(" ")?;
-        name.push_str(layout.word(at))?;
-    }
-    Ok(name)
+    layout.spaced(alloc, tokens)
 }
 
 // The form of the phrase without brackets that some tokens are, where they are one.
@@ -222,7 +215,7 @@ pub fn is_name(layout: &Layout, tokens: Span) -> bool
     ensures { result ≡ is_name layout.now (tokens_of layout.now tokens) }
 {
     let count = tokens.to - tokens.from;
-    1 <= count && count <= 12 && are_plain(layout, tokens)
+    1 <= count && count <= MOST_PHRASE_WORDS && are_plain(layout, tokens)
 }
 
 // Whether each of some tokens is a plain word.
@@ -276,10 +269,6 @@ fn is_spelled_as(words: &[&str], word: &str) -> bool
 }
 
 const DETERMINERS: [&str; 7] = ["the", "a", "an", "another", "some", "any", "every"];
-
-pub(crate) const NOT_THE_CASE: [&str; 6] = ["it", "is", "not", "the", "case", "that"];
-
-pub(crate) const THE_CASE: [&str; 5] = ["it", "is", "the", "case", "that"];
 
 // Whether some tokens begin as no constant does.
 #[tactic(auto, unfolding(crate::specs::Simple::begins_otherwise))]

@@ -1,7 +1,6 @@
 use crate::phrase::word_form;
 use crate::{Intro, ListPart, PhraseForm, Scope, list_parts, phrase_name, shape};
-use le_base::Span;
-use le_layout::scan;
+use le_layout::{Span, scan};
 use std::alloc::{AllocError, Global};
 use std::test::Fail;
 
@@ -228,5 +227,7 @@ fn names_in_a_scope(rt: HostRuntime) -> Result<(), Fail> {
     if scope.count() == 1 {
         assert_eq!(rt; scope.name(0), "Car");
     }
+    let mut closed = Scope::with_limit(alloc, 0);
+    assert!(rt; closed.introduce("car")? == Intro::Full && closed.count() == 0);
     Ok(())
 }

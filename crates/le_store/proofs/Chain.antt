@@ -6,7 +6,8 @@ use Rattle.std.proofs.lemmas.Bool.Decides.{Decides-eqb}
 use Rattle.std.proofs.lemmas.List.{get_or_append_left, take-append-drop, drop_more, length-map, length-take-le, take-take, get_or-take}
 use Rattle.std.proofs.lemmas.Nat.{mul-add-lt}
 use Rattle.std.proofs.lemmas.Int.{ints}
-use Rattle.le_terms.specs.Tree.{Tree, constant, number, date, variable, nil, cell, IsNumber, IsDay}
+use Rattle.le_base.specs.Ranges.{IsNumber, IsDay}
+use Rattle.le_terms.specs.Tree.{Tree, constant, number, date, variable, nil, cell}
 use Rattle.le_terms.specs.Variables.{replaced}
 use Rattle.le_subst.specs.Solution.{one}
 use Rattle.le_store.specs.declared.cells.Cell.{Cell}

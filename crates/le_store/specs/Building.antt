@@ -2,7 +2,8 @@
 use Rattle.std.specs.Prelude.{◌≡◌, ℕ, suc, ◌+◌, ◌-◌, ◌<◌, ◌≤◌, List, [], ◌∷◌, ◌++◌, length, get_or}
 use Rattle.le_terms.specs.declared.term.Sym.{Sym}
 use Rattle.le_terms.specs.declared.term.Sym.TheVariants as symbol
-use Rattle.le_terms.specs.Tree.{Tree, nil, trees_of, IsNumber, IsDay}
+use Rattle.le_base.specs.Ranges.{IsNumber, IsDay}
+use Rattle.le_terms.specs.Tree.{Tree, nil, trees_of}
 use Rattle.le_subst.specs.Solution.{size}
 use Rattle.le_store.specs.declared.cells.Cell.{Cell}
 use Rattle.le_store.specs.declared.cells.Cell.TheVariants.{Name, Num, Day, Nil, Cons, Link, Var, Bound}

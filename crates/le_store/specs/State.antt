@@ -1,7 +1,8 @@
 -- What holds of the fields of each store.
 use Rattle.std.specs.Prelude.{◌≡◌, ℕ, ◌<◌, ◌≤◌, false, List, [], ◌∷◌, length, map, get_or, take, None}
 use Rattle.std.specs.List.{AllByRecursion}
-use Rattle.le_terms.specs.Tree.{Tree, variable, nil, IsNumber, IsDay}
+use Rattle.le_base.specs.Ranges.{IsNumber, IsDay}
+use Rattle.le_terms.specs.Tree.{Tree, variable, nil}
 use Rattle.le_terms.specs.Variables.{replaced}
 use Rattle.le_subst.specs.Solution.{occurs}
 use Rattle.le_store.specs.declared.cells.Cell.{Cell}

@@ -11,7 +11,7 @@ pub insert_entry-mapped : (bindings : Bindings) (v : ℕ) (tree : Tree) → inse
 insert_entry-mapped [] v tree = refl
 insert_entry-mapped (binding ∷ bindings) v tree = ap (λ more. cond (v == binding.0) ((binding.0, tree) ∷ bindings) (binding ∷ more)) (insert_entry-mapped bindings v tree)
 
--- one binding more, behind the others
+-- one binding more, after the others
 pub bound_after-push : (bindings : List (ℕ × Tree)) (v : ℕ) (tree : Tree) (answer : Option Bindings) → bound_after (bindings ++ (v, tree) ∷ []) answer ≡ bound_after bindings (to_map.binds v tree answer)
 bound_after-push [] v tree answer = refl
 bound_after-push (binding ∷ bindings) v tree answer = ap (to_map.binds binding.0 binding.1) (bound_after-push bindings v tree answer)

@@ -106,13 +106,13 @@ take-past (suc m) (x ∷ xs) fits = ap (λ others. x ∷ others) (take-past m xs
 pub to_end : (m n : ℕ) (xs : List Sym) → length xs ≤ m + n → take m (drop n xs) ≡ drop n xs
 to_end m n xs fits = take-past m (drop n xs) (omega (arith, length-drop n xs))
 
--- the first item behind some others
+-- the first item after some others
 pub slice_get-drop : (n : ℕ) (xs : List Sym) → slice_get (drop n xs) 0 ≡ slice_get xs n
 slice_get-drop zero xs = refl
 slice_get-drop (suc n) [] = refl
 slice_get-drop (suc n) (x ∷ xs) = slice_get-drop n xs
 
--- the binding of a variable to the term that begins on the other side: what is known of its symbols and of those behind it
+-- the binding of a variable to the term that begins on the other side: what is known of its symbols and of those after it
 pub record Parts (left right image rest_left rest_right : List Sym) (v : ℕ) : Type 0 where
   pub term : IsTerm image
   pub sides : AreSides rest_left rest_right
@@ -160,7 +160,7 @@ parts-right left right f sides v n h long =
     (subst AreSymbols (sym is_image) (AreSymbols-left (flat f.s) (lefts f.rest) (subst AreSymbols f.left_is sides.left_symbols)))
     (AreSymbols-drop n left sides.left_symbols) (AreSymbols-drop 1 right sides.right_symbols) h.1
 
--- the equations behind what two lists have in common
+-- the equations after what two lists have in common
 pub record Behind (left right rest_left rest_right : List Sym) : Type 0 where
   pub sides : AreSides rest_left rest_right
   pub means : (step : Step) → StepMeans step (equations_of rest_left rest_right) → StepMeans step (equations_of left right)
@@ -246,7 +246,7 @@ right-begins left right sides some found every =
     let is : found ≡ Some (length (flat f.t)) = every f.t (rights f.rest, f.right_is) in
     subst (λ r. IsSome r) (sym is) (search rules)
 
--- the first symbols behind what two lists have in common differ
+-- the first symbols after what two lists have in common differ
 pub behind-differ : (left right : List Sym) (n : ℕ) → (n < length left → n < length right → slice_get left n ≢ slice_get right n)
     → (rest_left rest_right : List Sym) → rest_left ≡ drop n left → rest_right ≡ drop n right → 0 < length rest_left → 0 < length rest_right → slice_get rest_left 0 ≢ slice_get rest_right 0
 behind-differ left right n differ rest_left rest_right is_left is_right some_left some_right same =

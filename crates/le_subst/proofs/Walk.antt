@@ -88,7 +88,7 @@ onward (cell head tail) (date n) rest same = absurd (cc same)
 onward (cell head tail) (variable n) rest same = absurd (cc same)
 onward (cell head tail) nil rest same = absurd (cc same)
 
--- the symbols behind the first one of a tree
+-- the symbols after the first one of a tree
 abbrev pub below : Tree → List Sym
 below tree = drop 1 (flat tree)
 
@@ -107,7 +107,7 @@ lefts-root s t rest = ap (λ symbols. symbols ++ lefts rest) (flat-root s)
 pub rights-root : (s t : Tree) (rest : List Equation) → rights ((s, t) ∷ rest) ≡ root t ∷ (below t ++ rights rest)
 rights-root s t rest = ap (λ symbols. symbols ++ rights rest) (flat-root t)
 
--- the first symbols and those behind the first
+-- the first symbols and those after the first
 drop-suc : (n : ℕ) (xs : List Sym) → drop (suc n) xs ≡ drop n (drop 1 xs)
 drop-suc zero [] = refl
 drop-suc (suc n) [] = refl

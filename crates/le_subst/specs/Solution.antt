@@ -72,14 +72,14 @@ pub record Solver (X : Type 0) : Type 0 where
   pub failed : X
   pub binds : ℕ → Tree → X → X
 
--- what is made of a move and of the equations behind it
+-- what is made of a move and of the equations after it
 abbrev pub after : {X : Type 0} → Solver X → (List Equation → X) → (List Equation → X) → Move → List Equation → X
 after solver same fewer dropped rest = same rest
 after solver same fewer (split heads tails) rest = same (heads ∷ tails ∷ rest)
 after solver same fewer (bound v tree) rest = solver.binds v tree (fewer (with_replaced v tree rest))
 after solver same fewer contradictory rest = solver.failed
 
--- what is made of equations by at most so many moves before the next binding, behind which there are fewer variables
+-- what is made of equations by at most so many moves before the next binding, after which there are fewer variables
 abbrev pub within : {X : Type 0} → Solver X → (List Equation → X) → ℕ → List Equation → X
 within solver fewer moves [] = solver.solved
 within solver fewer zero (equation ∷ equations) = solver.failed

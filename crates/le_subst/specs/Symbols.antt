@@ -2,7 +2,8 @@
 use Rattle.std.specs.Prelude.{◌≡◌, ℕ, ◌==◌, List, [], ◌∷◌, ◌++◌, if◌then◌else◌}
 use Rattle.le_terms.specs.declared.term.Sym.{Sym}
 use Rattle.le_terms.specs.declared.term.Sym.TheVariants.{Name, Num, Day, Var, Nil, Cons}
-use Rattle.le_terms.specs.Tree.{Tree, flat, trees_of, IsNumber, IsDay}
+use Rattle.le_base.specs.Ranges.{IsNumber, IsDay}
+use Rattle.le_terms.specs.Tree.{Tree, flat, trees_of}
 use Rattle.le_subst.specs.Unifiers.{Equation, Bindings, value_at}
 
 -- the symbols of the left sides

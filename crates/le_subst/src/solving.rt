@@ -13,8 +13,8 @@ use std::alloc::{AllocError, Global};
 
 /// The solution of equations by unification with the occurs check, which is a most general unifier of
 /// them. Of two variables the one with the higher number is bound to the lower. `None` comes exactly
-/// where no substitution unifies the equations. The error is want of memory. Each binding takes time
-/// in proportion to the symbols that are left.
+/// where no substitution unifies the equations. Each binding takes time in
+/// proportion to the symbols that are left.
 pub fn solve(alloc: Global, equations: &[(Term, Term)]) -> Result<Option<Subst>, AllocError>
     ensures exact { IfOk result (λ answer. answer ≡ solve_of equations.now) }
     ensures mgu { IfOk result (λ answer. IfSome answer (λ subst. IsMgu subst equations.now)) }

@@ -39,7 +39,7 @@ impl Subst {
 
     /// Makes it the composition with another substitution that goes before it: afterwards a variable has
     /// what this one made of the term that the other one has for it. It takes time in proportion to the
-    /// other one. After out of memory it may be a part of that.
+    /// other one. Where memory runs out it may be a part of that.
     pub fn put_after(&mut self, alloc: Global, first: &Subst) -> Result<(), AllocError>
         ensures { OnOk result ((v : ℕ) → value_at self.new v ≡ apply self.old (value_at first.now v)) }
     {
@@ -78,7 +78,7 @@ fn pairs_of(alloc: Global, map: IndexMap<u32, Term>) -> Result<Vec<(u32, Term)>,
 }
 
 // The substitution that some bindings make, the first of which was made first: each variable's term is
-// under the bindings behind it.
+// under the bindings after it.
 pub(crate) fn closed(alloc: Global, mut bindings: Vec<(u32, Term)>) -> Result<Subst, AllocError>
     ensures { IfOk result (λ subst. Some subst ≡ bound_after bindings.items (Some [])) }
 {

@@ -7,9 +7,9 @@ use Rattle.le_layout.specs.declared.layout.Layout.{Layout}
 use Rattle.le_templates.specs.declared.part.Part.{Part}
 use Rattle.le_templates.specs.declared.part.Part.TheVariants.{Word, Slot}
 use Rattle.le_layout.specs.Layout.{no_token}
-use Rattle.le_layout.specs.Words.{text_of, is_word, is_star}
+use Rattle.le_layout.specs.Words.{text_of, is_word, is_star, spaced}
 use Rattle.le_layout.proofs.SpanLemmas.{slice_more, slice_none}
-use Rattle.le_templates.specs.Form.{joined, is_phrase, Opened, onto_phrase, closed, slot_first, outside, inside, is_spelled, begins_with}
+use Rattle.le_templates.specs.Form.{is_phrase, Opened, onto_phrase, closed, slot_first, outside, inside, is_spelled, begins_with}
 
 -- the first items and the next one
 take_push : {X : Type 0} (xs ys : List X) (n : ℕ) (x : X) → drop n xs ≡ x ∷ ys → take (suc n) xs ≡ take n xs ++ x ∷ []
@@ -28,31 +28,11 @@ slice_push xs from at d low high =
 
 -- ---- the words of a phrase
 
-abbrev pub spaced : List (List ℕ) → List ℕ
-spaced ws = flat_map (λ v. 32 ∷ v) ws
-
 abbrev pub texts : Layout → ℕ → ℕ → List (List ℕ)
 texts l from to = map (text_of l) (slice_range l.tokens from to)
 
 abbrev pub text_at : Layout → ℕ → List ℕ
 text_at l at = text_of l (get_or l.tokens at no_token)
-
-pub phrase_first : (l : Layout) (from to : ℕ) (text : List ℕ) → from < to → to ≤ length l.tokens → text ≡ text_at l from → text ++ spaced (texts l (from + 1) to) ≡ joined (texts l from to)
-phrase_first l from to text low high e =
-    ap (λ t. t ++ spaced (texts l (from + 1) to)) e
-    ∙ sym (ap (λ ts. joined (map (text_of l) ts)) (slice_more l.tokens from to no_token low high))
-
-pub phrase_more : (l : Layout) (at to : ℕ) (old mid new word all : List ℕ) → at < to → to ≤ length l.tokens → old ++ spaced (texts l at to) ≡ all → mid ≡ old ++ 32 ∷ [] → new ≡ mid ++ word → word ≡ text_at l at → new ++ spaced (texts l (at + 1) to) ≡ all
-phrase_more l at to old mid new word all low high h m n w =
-    ap (λ t. t ++ spaced (texts l (at + 1) to)) (n ∙ ap (λ t. t ++ word) m ∙ append_assoc old (32 ∷ []) word)
-    ∙ append_assoc old (32 ∷ word) (spaced (texts l (at + 1) to))
-    ∙ ap (λ t. old ++ 32 ∷ (t ++ spaced (texts l (at + 1) to))) w
-    ∙ sym (ap (λ ts. old ++ spaced (map (text_of l) ts)) (slice_more l.tokens at to no_token low high))
-    ∙ h
-
-pub phrase_end : (l : Layout) (at to : ℕ) (text all : List ℕ) → to ≤ at → text ++ spaced (texts l at to) ≡ all → text ≡ all
-phrase_end l at to text all h e =
-    sym (append-nil text) ∙ sym (ap (λ ts. text ++ spaced (map (text_of l) ts)) (slice_none l.tokens at to h)) ∙ e
 
 -- ---- within a slot
 
@@ -106,15 +86,15 @@ inside_end l from at to ended h =
     ap slot_first h ∙ onto_nothing (texts l from at) (inside l (slice_range l.tokens at to)) (ap (inside l) (slice_none l.tokens at to ended))
 
 -- the closing asterisk
-closed_slot : (ws : List (List ℕ)) (o : Option (List Part)) (b : Bool) → is_phrase ws ≡ b → slot_first (onto_phrase ws (closed o)) ≡ cond b (option_map (λ parts. Slot (joined ws) ∷ parts) o) None
+closed_slot : (ws : List (List ℕ)) (o : Option (List Part)) (b : Bool) → is_phrase ws ≡ b → slot_first (onto_phrase ws (closed o)) ≡ cond b (option_map (λ parts. Slot (spaced ws) ∷ parts) o) None
 closed_slot ws None true e = refl
 closed_slot ws None false e = refl
 closed_slot ws (Some parts) b e =
-    ap (λ vs. cond (is_phrase vs) (Some (Slot (joined vs) ∷ parts)) None) (append-nil ws)
-    ∙ ap (λ c. cond c (Some (Slot (joined ws) ∷ parts)) None) e
+    ap (λ vs. cond (is_phrase vs) (Some (Slot (spaced vs) ∷ parts)) None) (append-nil ws)
+    ∙ ap (λ c. cond c (Some (Slot (spaced ws) ∷ parts)) None) e
     ∙ chosen b
   where
-    chosen : (c : Bool) → cond c (Some (Slot (joined ws) ∷ parts)) None ≡ cond c (option_map (λ ps. Slot (joined ws) ∷ ps) (Some parts)) None
+    chosen : (c : Bool) → cond c (Some (Slot (spaced ws) ∷ parts)) None ≡ cond c (option_map (λ ps. Slot (spaced ws) ∷ ps) (Some parts)) None
     chosen true = refl
     chosen false = refl
 
@@ -122,7 +102,7 @@ pub texts_count : (l : Layout) (from to : ℕ) → to ≤ length l.tokens → le
 texts_count l from to high = length-map (slice_range l.tokens from to) (text_of l) ∙ omega (arith, length-take (to - from) (drop from l.tokens), length-drop from l.tokens)
 
 pub inside_star : (l : Layout) (from at to : ℕ) (b : Bool) → at < to → to ≤ length l.tokens → is_star (get_or l.tokens at no_token).kind ≡ true → b ≡ (nat_le 1 (at - from) && nat_le (at - from) 12) → Inside l from at to
-    → slot_first (inside l (slice_range l.tokens from to)) ≡ cond b (option_map (λ parts. Slot (joined (texts l from at)) ∷ parts) (outside l (slice_range l.tokens (at + 1) to))) None
+    → slot_first (inside l (slice_range l.tokens from to)) ≡ cond b (option_map (λ parts. Slot (spaced (texts l from at)) ∷ parts) (outside l (slice_range l.tokens (at + 1) to))) None
 inside_star l from at to b low high star fits h =
     ap slot_first h
     ∙ ap (λ o. slot_first (onto_phrase (texts l from at) o)) (inside_at l at to low high ∙ star_kind l (get_or l.tokens at no_token) (slice_range l.tokens (at + 1) to) true _ star refl)
@@ -171,11 +151,11 @@ pub walk_open : (l : Layout) (old : List Part) (at to : ℕ) → at < to → to 
 walk_open l old at to low high word star none = walk_star l old at to low high word star ∙ ap (option_map (λ more. old ++ more)) none
 
 pub walk_slot : (l : Layout) (old new : List Part) (text : List ℕ) (at end to : ℕ) → at < to → to ≤ length l.tokens → is_word (get_or l.tokens at no_token).kind ≡ false → is_star (get_or l.tokens at no_token).kind ≡ true
-    → slot_first (inside l (slice_range l.tokens (at + 1) to)) ≡ option_map (λ parts. Slot (joined (texts l (at + 1) end)) ∷ parts) (outside l (slice_range l.tokens (end + 1) to))
-    → text ≡ joined (texts l (at + 1) end) → new ≡ old ++ Slot text ∷ [] → walked l new (end + 1) to ≡ walked l old at to
+    → slot_first (inside l (slice_range l.tokens (at + 1) to)) ≡ option_map (λ parts. Slot (spaced (texts l (at + 1) end)) ∷ parts) (outside l (slice_range l.tokens (end + 1) to))
+    → text ≡ spaced (texts l (at + 1) end) → new ≡ old ++ Slot text ∷ [] → walked l new (end + 1) to ≡ walked l old at to
 walk_slot l old new text at end to low high word star closes t n =
     ap (λ ps. walked l ps (end + 1) to) (n ∙ ap (λ s. old ++ Slot s ∷ []) t)
-    ∙ sym (part_pushed old (Slot (joined (texts l (at + 1) end))) (outside l (slice_range l.tokens (end + 1) to)))
+    ∙ sym (part_pushed old (Slot (spaced (texts l (at + 1) end))) (outside l (slice_range l.tokens (end + 1) to)))
     ∙ sym (ap (option_map (λ more. old ++ more)) closes)
     ∙ sym (walk_star l old at to low high word star)
 

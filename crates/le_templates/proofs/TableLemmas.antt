@@ -12,7 +12,7 @@ use Rattle.std.specs.Option.{option_map}
 use Rattle.std.specs.Str.{bytes_eq}
 use Rattle.std.specs.Char.{to_ascii_lowercase}
 use Rattle.le_base.specs.declared.code.Code.TheVariants.{BadTemplate, SameTemplate, TooMany}
-use Rattle.le_base.specs.declared.stop.Span.{Span}
+use Rattle.le_layout.specs.declared.span.Span.{Span}
 use Rattle.le_base.specs.Stop.{refusal_at}
 use Rattle.le_layout.specs.declared.layout.Layout.{Layout}
 use Rattle.le_templates.specs.declared.part.Part.{Part}

@@ -2,23 +2,18 @@
 use Rattle.std.specs.Prelude.{ℕ, ◌+◌, Bool, true, false, not, ◌&&◌, ◌||◌, nat_le, if◌then◌else◌, Option, Some, None, List, [], ◌∷◌, ◌++◌, length, flat_map, codes}
 use Rattle.std.specs.Option.{option_map}
 use Rattle.std.specs.List.{list_any, count_by}
-use Rattle.le_base.specs.declared.stop.Span.{Span}
+use Rattle.le_layout.specs.declared.span.Span.{Span}
 use Rattle.le_layout.specs.declared.token.Token.{Token}
 use Rattle.le_layout.specs.declared.layout.Layout.{Layout}
-use Rattle.le_layout.specs.Words.{text_of, tokens_of, same_word, is_word, is_star}
+use Rattle.le_layout.specs.Words.{text_of, tokens_of, spaced, same_word, is_word, is_star, not_the_case, the_case, all_cases}
 use Rattle.le_templates.specs.declared.part.Part.{Part}
 use Rattle.le_templates.specs.declared.part.Part.TheVariants.{Word, Slot}
-
--- the words of a phrase joined by one space
-abbrev pub joined : List (List ℕ) → List ℕ
-joined [] = []
-joined (w ∷ ws) = w ++ flat_map (λ v. 32 ∷ v) ws
 
 -- a slot's phrase has 1 to 12 words
 abbrev pub is_phrase : List (List ℕ) → Bool
 is_phrase ws = nat_le 1 (length ws) && nat_le (length ws) 12
 
--- what stands behind an opening asterisk: the words up to the closing one, and the parts behind that
+-- what stands after an opening asterisk: the words up to the closing one, and the parts after that
 pub record Opened : Type 0 where
   pub phrase : List (List ℕ)
   pub rest : List Part
@@ -28,15 +23,15 @@ abbrev pub onto_phrase : List (List ℕ) → Option Opened → Option Opened
 onto_phrase ws None = None
 onto_phrase ws (Some o) = Some (record { phrase = ws ++ o.phrase; rest = o.rest })
 
--- a phrase that is closed here, with the parts behind it
+-- a phrase that is closed here, with the parts after it
 abbrev pub closed : Option (List Part) → Option Opened
 closed None = None
 closed (Some parts) = Some (record { phrase = []; rest = parts })
 
--- the slot and the parts behind it, where the phrase has 1 to 12 words
+-- the slot and the parts after it, where the phrase has 1 to 12 words
 abbrev pub slot_first : Option Opened → Option (List Part)
 slot_first None = None
-slot_first (Some o) = if is_phrase o.phrase then Some (Slot (joined o.phrase) ∷ o.rest) else None
+slot_first (Some o) = if is_phrase o.phrase then Some (Slot (spaced o.phrase) ∷ o.rest) else None
 
 -- The words and slots that tokens spell, where each token is a word or an asterisk, each slot is closed, and each has 1 to 12 words: outside slots a word is a part of its own, and an asterisk opens a slot; within one a word is a word of its phrase, and an asterisk closes it.
 abbrev mutual
@@ -76,9 +71,9 @@ unfoldable pub has_opening : List Part → Bool
 has_opening parts =
     begins_with parts (codes "and" ∷ [])
     || (begins_with parts (codes "or" ∷ [])
-    || (begins_with parts (codes "it" ∷ codes "is" ∷ codes "not" ∷ codes "the" ∷ codes "case" ∷ codes "that" ∷ [])
-    || (begins_with parts (codes "it" ∷ codes "is" ∷ codes "the" ∷ codes "case" ∷ codes "that" ∷ [])
-    || begins_with parts (codes "for" ∷ codes "all" ∷ codes "cases" ∷ codes "in" ∷ codes "which" ∷ []))))
+    || (begins_with parts not_the_case
+    || (begins_with parts the_case
+    || begins_with parts all_cases)))
 
 -- how many words stand outside slots
 abbrev pub word_count : List Part → ℕ

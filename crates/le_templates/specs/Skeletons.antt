@@ -16,7 +16,7 @@ skeleton_part (Slot s) = None
 abbrev pub skeleton : List Part → List (Option (List ℕ))
 skeleton parts = map skeleton_part parts
 
--- a word in a key: a 1 before each byte, and a 0 behind the last
+-- a word in a key: a 1 before each byte, and a 0 after the last
 abbrev pub word_key : List ℕ → List ℕ
 word_key [] = 0 ∷ []
 word_key (b ∷ bs) = 1 ∷ b ∷ word_key bs
@@ -34,7 +34,7 @@ key_of parts = flat_map (λ part. part_key (skeleton_part part)) parts
 abbrev pub same_skeleton : List Part → List Part → Bool
 same_skeleton a b = bytes_eq (key_of a) (key_of b)
 
--- the last word of a phrase: what stands behind its last space
+-- the last word of a phrase: what stands after its last space
 abbrev pub last_word : List ℕ → List ℕ
 last_word [] = []
 last_word (b ∷ bs) = if list_any (λ c. c == 32) (b ∷ bs) then last_word bs else b ∷ bs

@@ -2,7 +2,7 @@
 use Rattle.std.specs.Prelude.{ℕ, ◌+◌, Bool, not, ◌||◌, nat_le, if◌then◌else◌, Option, Some, None, Result, Ok, Err, List, [], ◌∷◌, ◌++◌, length, slice_index_or, codes}
 use Rattle.std.specs.List.{list_any}
 use Rattle.le_base.specs.declared.code.Code.TheVariants.{BadTemplate, SameTemplate, TooMany}
-use Rattle.le_base.specs.declared.stop.Span.{Span}
+use Rattle.le_layout.specs.declared.span.Span.{Span}
 use Rattle.le_base.specs.declared.stop.Refusal.{Refusal}
 use Rattle.le_base.specs.Stop.{refusal_at}
 use Rattle.le_layout.specs.declared.token.Token.{Token}

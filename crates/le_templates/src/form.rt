@@ -3,13 +3,13 @@ ghost use Rattle.std.specs.Option.{option_map};
 ghost use Rattle.std.specs.List.{list_any};
 ghost use Rattle.le_layout.specs.Layout.{IsLayout};
 ghost use Rattle.le_layout.specs.Words.{tokens_of, text_of};
-ghost use Rattle.le_templates.specs.Form.{joined, slot_first, outside, inside, is_word_part, is_spelled, is_reserved, begins_with, has_opening, word_count, has_counts, is_template, template_of};
+ghost use Rattle.le_templates.specs.Form.{slot_first, outside, inside, is_word_part, is_spelled, is_reserved, begins_with, has_opening, word_count, has_counts, is_template, template_of};
 ghost use Rattle.le_templates.specs.Walks.{ClosesAt};
 ghost use Rattle.le_templates.specs.declared.part.Part.TheVariants.{Slot};
 
 use crate::{Part, Parts, Template};
-use le_base::{Span, Text};
-use le_layout::Layout;
+use le_base::{MOST_PHRASE_WORDS, MOST_SLOTS, MOST_TEMPLATE_WORDS, Text};
+use le_layout::{ALL_CASES, Layout, NOT_THE_CASE, Span, THE_CASE};
 use std::alloc::{AllocError, Global};
 
 /// The template that the tokens of a span spell, or None where they spell none. The error is want of
@@ -54,7 +54,13 @@ fn outside(alloc: Global, layout: &Layout, span: Span) -> Result<Option<Vec<Part
             let Some(end) = slot_end(layout, at + 1, span.to) else {
                 return Ok(None);
             };
-            parts.push(Part::Slot(phrase(alloc, layout, at + 1, end)?))?;
+            parts.push(Part::Slot(layout.spaced(
+                alloc,
+                Span {
+                    from: at + 1,
+                    to: end,
+                },
+            )?))?;
             at = end + 1;
         } else {
             return Ok(None);
@@ -90,22 +96,7 @@ fn is_phrase_len(count: u32) -> bool
     ensures test { result ≡ (nat_le 1 count && nat_le count 12) }
     ensures some { result ≡ true → 0 < count }
 {
-    1 <= count && count <= 12
-}
-
-// The words of some tokens, joined by one space.
-fn phrase(alloc: Global, layout: &Layout, from: u32, to: u32) -> Result<Text, AllocError>
-    requires layout { IsLayout layout.now }
-    requires some { from < to }
-    requires within { to ≤ length layout.now.tokens }
-    ensures { IfOk result (λ text. text ≡ joined (map (text_of layout.now) (slice_range layout.now.tokens from to))) }
-{
-    let mut text = Text::of(alloc, layout.word(from))?;
-    for at in from + 1..to {
-        text.push_str(" ")?;
-        text.push_str(layout.word(at))?;
-    }
-    Ok(text)
+    1 <= count && count <= MOST_PHRASE_WORDS
 }
 
 // Whether words and slots are a template.
@@ -121,7 +112,7 @@ fn has_counts(parts: &[Part]) -> bool
     ensures { result ≡ has_counts parts.now }
 {
     let words = word_count(parts);
-    1 <= words && words <= 40 && parts.len() <= words + 8
+    1 <= words && words <= MOST_TEMPLATE_WORDS && parts.len() <= words + MOST_SLOTS
 }
 
 // How many words stand outside slots.
@@ -183,12 +174,6 @@ fn begins_with(parts: &[Part], words: &[&str]) -> bool
     }
     true
 }
-
-const NOT_THE_CASE: [&str; 6] = ["it", "is", "not", "the", "case", "that"];
-
-const THE_CASE: [&str; 5] = ["it", "is", "the", "case", "that"];
-
-const ALL_CASES: [&str; 5] = ["for", "all", "cases", "in", "which"];
 
 // Whether a template begins with the words of a connective or of an opener.
 #[tactic(auto, unfolding(crate::specs::Form::has_opening))]

@@ -8,7 +8,7 @@ use crate::skeleton::last_word;
 use crate::texts::Texts;
 use std::alloc::{AllocError, Global};
 
-/// Enters a key that isn't there, and the last words of the slots of parts. After want of memory both
+/// Enters a key that isn't there, and the last words of the slots of parts. Where memory runs out both
 /// are as before.
 pub(crate) fn enter(
     alloc: Global,

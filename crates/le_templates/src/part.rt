@@ -1,7 +1,6 @@
 ghost use Rattle.std.specs.Prelude.{◌≡◌};
 
-use le_base::Text;
-use std::marker::Model;
+use le_base::{List, Text};
 
 /// A part of a template.
 #[derive(Debug, Drop)]
@@ -12,43 +11,8 @@ pub enum Part {
     Slot(Text),
 }
 
-/// The parts of a template, in order, which contracts see as a list.
-#[derive(Debug, Drop)]
-pub struct Parts {
-    items: Vec<Part>,
-}
-
-impl Model for Parts {
-    ghost use Rattle.std.specs.Prelude.{List};
-    ghost use Rattle.le_templates.specs.declared.part.Part.{Part};
-
-    ghost Value = { List Part };
-
-    ghost view = { λ p. p.items.items };
-}
-
-impl Parts {
-    /// The parts of a vector. It takes no memory.
-    pub fn from_vec(items: Vec<Part>) -> Self
-        ensures { result ≡ items.items }
-    {
-        Parts { items }
-    }
-
-    /// The vector of the parts. It takes no memory.
-    pub fn into_vec(self) -> Vec<Part>
-        ensures { result.items ≡ self }
-    {
-        self.items
-    }
-
-    /// The parts, borrowed. It takes no memory.
-    pub fn as_slice(&self) -> &[Part]
-        ensures { result.now ≡ self.now }
-    {
-        self.items.as_slice()
-    }
-}
+/// The parts of a template, in order.
+pub type Parts = List<Part>;
 
 /// A template: its words and slots.
 #[derive(Debug, Drop)]

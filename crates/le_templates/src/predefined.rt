@@ -127,7 +127,7 @@ const TABLE: [&[Written]; 20] = [
     ],
 ];
 
-/// The predefined templates. The error is want of memory.
+/// The predefined templates.
 #[tactic(auto, unfolding(crate::specs::Table::predefined))]
 pub(crate) fn predefined(alloc: Global) -> Result<Vec<Template>, AllocError>
     ensures { IfOk result (λ templates. templates.items ≡ predefined_templates) }

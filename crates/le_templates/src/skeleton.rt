@@ -11,7 +11,7 @@ pub fn one_key()
     ensures { (a b : List Part) → (key_of a ≡ key_of b) ↔ (skeleton a ≡ skeleton b) }
 {}
 
-/// The key of a template. The error is want of memory.
+/// The key of a template.
 #[tactic(auto, unfolding(crate::specs::Skeletons::key_of))]
 pub(crate) fn key_of(alloc: Global, parts: &[Part]) -> Result<Vec<u8>, AllocError>
     ensures { IfOk result (λ key. key.items ≡ key_of parts.now) }
@@ -48,7 +48,7 @@ fn push_word(key: &mut Vec<u8>, word: &[u8]) -> Result<(), AllocError>
     Ok(())
 }
 
-/// The last word of a phrase. It takes no memory.
+/// The last word of a phrase.
 pub(crate) fn last_word(phrase: &[u8]) -> &[u8]
     ensures { result.now ≡ last_word_of phrase.now }
 {

@@ -1,6 +1,6 @@
 use crate::{Part, Parts, Template, Templates};
-use le_base::{Span, Stop};
-use le_layout::scan;
+use le_base::Stop;
+use le_layout::{Span, scan};
 use std::alloc::{AllocError, Global};
 use std::test::Fail;
 

@@ -22,7 +22,7 @@ impl Model for Texts {
 }
 
 impl Texts {
-    // No texts. It takes no memory.
+    // No texts.
     pub(crate) fn new(alloc: Global) -> Self
         ensures { result ≡ [] }
     {
@@ -52,7 +52,7 @@ impl Texts {
         any_is_lowered(self.set.as_slice(), word)
     }
 
-    // Enters a text at the end, unless it is there. After want of memory the texts are as before.
+    // Enters a text at the end, unless it is there. Where memory runs out the texts are as before.
     pub(crate) fn enter(&mut self, text: Vec<u8>) -> Result<(), AllocError>
         ensures ok { OnOk result (self.new ≡ entered self.old text.items) }
         ensures err { OnErr result (self.new ≡ self.old) }

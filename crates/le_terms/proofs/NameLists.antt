@@ -29,7 +29,7 @@ found_place p xs i = by (nat_lt (position_or_len p xs) (length xs))
     by true e = cc
     by false e = absurd (let n : None ≡ Some i = e in cc)
 
--- what fails everywhere is found behind the end
+-- what fails everywhere is found after the end
 pub missing_place : {X : Type 0} (p : X → Bool) (xs : List X) → list_any p xs ≡ false → position_or_len p xs ≡ length xs
 missing_place p [] none = refl
 missing_place p (x ∷ xs) none =

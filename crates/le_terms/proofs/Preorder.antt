@@ -56,7 +56,7 @@ pub firsts-none : (ns : List ℕ) → firsts ns ≡ [] → ns ≡ []
 firsts-none [] none = refl
 firsts-none (n ∷ ns) none = absurd (cc none)
 
--- what a walk has behind it once it puts the image of one item more at the end
+-- what a walk has after it once it puts the image of one item more at the end
 pub map_take-push : {X Y : Type 0} (f : X → Y) (xs : List X) (i : ℕ) (x : X) (old new : List Y) (y : Y) → i < length xs → x ≡ get_or xs i x → old ≡ map f (take i xs) → y ≡ f x → new ≡ old ++ y ∷ [] → new ≡ map f (take (i + 1) xs)
 map_take-push f xs i x old new y within read before image pushed =
     pushed

@@ -79,7 +79,7 @@ spans-symbol (Var v) symbols trees n h = spans-leaf (variable v) (Var v) symbols
 spans-symbol Nil symbols trees n h = spans-leaf nil Nil symbols trees n refl h
 spans-symbol Cons symbols trees n h = spans-cell h.forest h.rest symbols trees n h.many h.begins h.long
 
--- a span of the symbols behind the first, with the first
+-- a span of the symbols after the first, with the first
 spans-more : (symbol : Sym) (symbols : List Sym) (trees n : ℕ) (o : Option ℕ) → option_map (λ m. 1 + m) o ≡ Some n → ((m : ℕ) → o ≡ Some m → Spans (wanted_after symbol trees) symbols m) → Spans (suc trees) (symbol ∷ symbols) n
 spans-more symbol symbols trees n None e behind = absurd (let none : None ≡ Some n = e in cc)
 spans-more symbol symbols trees n (Some m) e behind =

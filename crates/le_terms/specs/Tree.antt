@@ -1,9 +1,10 @@
 -- Terms as trees, and the list of a tree's symbols in preorder: first-order terms (Lloyd, Foundations of Logic Programming, chapter 1), whose one function symbol is the cell of a list.
-use Rattle.std.specs.Prelude.{◌≡◌, ℕ, ◌-◌, ◌^◌, ◌==◌, cond, ℤ, pos, negsuc, ◌≤ℤ◌, List, [], ◌∷◌, ◌++◌, refl}
+use Rattle.std.specs.Prelude.{◌≡◌, ℕ, ◌==◌, cond, ℤ, pos, negsuc, List, [], ◌∷◌, ◌++◌, refl}
 use Rattle.std.proofs.Common.{append_assoc, append-nil, ap, sym, subst, ◌∙◌}
 use Rattle.std.specs.Coded.{Coded, code_by, coded×, coded_ℕ, coded_ℤ, coded_list}
 use Rattle.le_terms.specs.declared.term.Sym.{Sym}
 use Rattle.le_terms.specs.declared.term.Sym.TheVariants.{Name, Num, Day, Var, Nil, Cons}
+use Rattle.le_base.specs.Ranges.{IsNumber, IsDay}
 
 -- a term: a constant, a number, a date, a variable, the empty list, or a list's cell with its head and its tail
 pub data Tree : Type 0 where
@@ -38,7 +39,7 @@ paired (head ∷ tail ∷ trees) = cell head tail ∷ trees
 paired (tree ∷ []) = []
 paired [] = []
 
--- a symbol before the trees that stand behind it
+-- a symbol before the trees that stand after it
 abbrev pub with_symbol : Sym → List Tree → List Tree
 with_symbol (Name n) trees = constant n ∷ trees
 with_symbol (Num z) trees = number z ∷ trees
@@ -60,14 +61,6 @@ first_tree (tree ∷ trees) = tree
 -- the tree that a list of symbols begins with
 abbrev pub tree_of : List Sym → Tree
 tree_of symbols = first_tree (trees_of symbols)
-
--- a number that a term may have: from -10^18 to 10^18, this project's profile
-abbrev pub IsNumber : ℤ → Type 0
-IsNumber z = (negsuc (10 ^ 18 - 1) ≤ℤ z) × (z ≤ℤ pos (10 ^ 18))
-
--- a day that a term may have, counted from 1970-01-01: from 0001-01-01 to 9999-12-31, this project's profile
-abbrev pub IsDay : ℤ → Type 0
-IsDay d = (negsuc 719161 ≤ℤ d) × (d ≤ℤ pos 2932896)
 
 -- each number and each day of a tree is one that a term may have
 abbrev pub IsInRange : Tree → Type 0
@@ -96,7 +89,7 @@ IsLeaf (Var v) = Unit {0}
 IsLeaf Nil = Unit {0}
 IsLeaf Cons = ⊥
 
--- the trees of some trees' symbols, with trees behind them, are these trees
+-- the trees of some trees' symbols, with trees after them, are these trees
 pub trees_of-flat : (tree : Tree) (rest : List Sym) → trees_of (flat tree ++ rest) ≡ tree ∷ trees_of rest
 trees_of-flat (constant n) rest = refl
 trees_of-flat (number z) rest = refl

@@ -24,7 +24,7 @@ impl Model for Names {
 }
 
 impl Names {
-    /// No names. It takes no memory.
+    /// No names.
     pub fn new(alloc: Global) -> Self
         ensures { result ≡ [] }
     {
@@ -34,8 +34,8 @@ impl Names {
     }
 
     /// The number of a name of at most 268,435,456 bytes, where fewer than 2^32 - 1 names are there. A
-    /// name that isn't there is entered with the next number. The error is want of memory, and the
-    /// names are then as before.
+    /// name that isn't there is entered with the next number. Where memory runs out, the names are
+    /// as before.
     pub fn number_of(&mut self, name: &str) -> Result<u32, AllocError>
         requires { length self.old < 2 ^ 32 - 1 }
         ensures number { IfOk result (λ n. n ≡ number_of_name self.old name.now) }
@@ -46,7 +46,7 @@ impl Names {
         Ok(place as u32)
     }
 
-    /// The name of this number, which is below the count. It takes no memory.
+    /// The name of this number, which is below the count.
     pub fn name(&self, n: u32) -> &str
         requires { n < length self.now }
         ensures name { slice_get self.now n ≡ Some result.now }
@@ -55,7 +55,7 @@ impl Names {
         self.texts.as_slice()[n as usize].as_str()
     }
 
-    /// How many names there are. It takes no memory.
+    /// How many names there are.
     pub fn count(&self) -> u32
         ensures count { result ≡ length self.now }
         ensures distinct { HasNoRepeats self.now }
@@ -63,7 +63,7 @@ impl Names {
         self.texts.len() as u32
     }
 
-    /// Keeps the first `n` names. It takes no memory.
+    /// Keeps the first `n` names.
     pub fn truncate(&mut self, n: u32)
         ensures { self.new ≡ take n self.old }
     {

@@ -1,9 +1,9 @@
-ghost use Rattle.std.specs.Prelude.{◌≡◌, ◌↔◌, IsTrue, IfOk};
+ghost use Rattle.std.specs.Prelude.{◌≡◌, ◌↔◌, IsTrue};
 
+use crate::term::same_terms;
 use crate::{Term, Terms};
-use le_base::{FoldKind, Text};
+use le_base::{Copied, FoldKind, List, Text};
 use std::alloc::{AllocError, Global};
-use std::marker::Model;
 
 /// A predicate with its arguments.
 #[derive(Debug, Drop)]
@@ -15,17 +15,16 @@ pub struct Atom {
 }
 
 impl Atom {
-    /// Whether two atoms have the same predicate and the same arguments. It takes no memory.
+    /// Whether two atoms have the same predicate and the same arguments.
     pub fn equals(&self, other: &Atom) -> bool
         ensures { IsTrue result ↔ (self.now ≡ other.now) }
     {
-        self.pred == other.pred && self.args.equals(&other.args)
+        self.pred == other.pred && same_terms(self.args.as_slice(), other.args.as_slice())
     }
+}
 
-    /// An equal atom. The error is want of memory.
-    pub fn copy(&self, alloc: Global) -> Result<Self, AllocError>
-        ensures { IfOk result (λ atom. atom ≡ self.now) }
-    {
+impl Copied for Atom {
+    fn copy(&self, alloc: Global) -> Result<Self, AllocError> {
         Ok(Atom {
             pred: self.pred,
             args: self.args.copy(alloc)?,
@@ -55,11 +54,8 @@ pub enum Form {
     },
 }
 
-impl Form {
-    /// An equal form. The error is want of memory.
-    pub fn copy(&self, alloc: Global) -> Result<Self, AllocError>
-        ensures { IfOk result (λ form. form ≡ self.now) }
-    {
+impl Copied for Form {
+    fn copy(&self, alloc: Global) -> Result<Self, AllocError> {
         match self {
             Form::Pos(atom) => Ok(Form::Pos(atom.copy(alloc)?)),
             Form::Neg(atom) => Ok(Form::Neg(atom.copy(alloc)?)),
@@ -88,11 +84,8 @@ pub struct Literal {
     pub form: Form,
 }
 
-impl Literal {
-    /// An equal literal. The error is want of memory.
-    pub fn copy(&self, alloc: Global) -> Result<Self, AllocError>
-        ensures { IfOk result (λ literal. literal ≡ self.now) }
-    {
+impl Copied for Literal {
+    fn copy(&self, alloc: Global) -> Result<Self, AllocError> {
         Ok(Literal {
             line: self.line,
             form: self.form.copy(alloc)?,
@@ -100,66 +93,8 @@ impl Literal {
     }
 }
 
-/// Some literals, which contracts see as a list.
-#[derive(Debug, Drop)]
-pub struct Literals {
-    items: Vec<Literal>,
-}
-
-impl Model for Literals {
-    ghost use Rattle.std.specs.Prelude.{List};
-    ghost use Rattle.std.specs.Coded.{codes};
-    ghost use Rattle.le_terms.specs.Tree.{tree_code};
-    ghost use Rattle.le_terms.specs.declared.program.Literal.{Literal};
-
-    ghost Value = { List Literal };
-
-    ghost coded = { Prim.hlevel (codes, tree_code) };
-
-    ghost view = { λ l. l.items.items };
-}
-
-impl Literals {
-    /// These literals. It takes no memory.
-    pub fn from_vec(items: Vec<Literal>) -> Self
-        ensures { result ≡ items.items }
-    {
-        Literals { items }
-    }
-
-    /// The literals, in their own memory. It takes no memory.
-    pub fn into_vec(self) -> Vec<Literal>
-        ensures { result.items ≡ self }
-    {
-        self.items
-    }
-
-    /// The literals, borrowed. It takes no memory.
-    pub fn as_slice(&self) -> &[Literal]
-        ensures { result.now ≡ self.now }
-    {
-        self.items.as_slice()
-    }
-
-    /// Equal literals. The error is want of memory.
-    pub fn copy(&self, alloc: Global) -> Result<Self, AllocError>
-        ensures { IfOk result (λ literals. literals ≡ self.now) }
-    {
-        let items = copy_literals(alloc, self.items.as_slice())?;
-        Ok(Literals { items })
-    }
-}
-
-// Equal literals.
-fn copy_literals(alloc: Global, literals: &[Literal]) -> Result<Vec<Literal>, AllocError>
-    ensures { IfOk result (λ copies. copies.items ≡ literals.now) }
-{
-    let mut copies = Vec::with_capacity(alloc, literals.len())?;
-    for literal in literals {
-        copies.push(literal.copy(alloc)?)?;
-    }
-    Ok(copies)
-}
+/// Some literals.
+pub type Literals = List<Literal>;
 
 /// Where a clause comes from.
 #[derive(Clone, Copy, Debug, PartialEq, Eq)]
@@ -187,11 +122,8 @@ pub struct Clause {
     pub kind: ClauseKind,
 }
 
-impl Clause {
-    /// An equal clause. The error is want of memory.
-    pub fn copy(&self, alloc: Global) -> Result<Self, AllocError>
-        ensures { IfOk result (λ clause. clause ≡ self.now) }
-    {
+impl Copied for Clause {
+    fn copy(&self, alloc: Global) -> Result<Self, AllocError> {
         Ok(Clause {
             head: self.head.copy(alloc)?,
             body: self.body.copy(alloc)?,
@@ -202,47 +134,8 @@ impl Clause {
     }
 }
 
-/// Some clauses, which contracts see as a list.
-#[derive(Debug, Drop)]
-pub struct Clauses {
-    items: Vec<Clause>,
-}
-
-impl Model for Clauses {
-    ghost use Rattle.std.specs.Prelude.{List};
-    ghost use Rattle.std.specs.Coded.{codes};
-    ghost use Rattle.le_terms.specs.Tree.{tree_code};
-    ghost use Rattle.le_terms.specs.declared.program.Clause.{Clause};
-
-    ghost Value = { List Clause };
-
-    ghost coded = { Prim.hlevel (codes, tree_code) };
-
-    ghost view = { λ l. l.items.items };
-}
-
-impl Clauses {
-    /// These clauses. It takes no memory.
-    pub fn from_vec(items: Vec<Clause>) -> Self
-        ensures { result ≡ items.items }
-    {
-        Clauses { items }
-    }
-
-    /// The clauses, in their own memory. It takes no memory.
-    pub fn into_vec(self) -> Vec<Clause>
-        ensures { result.items ≡ self }
-    {
-        self.items
-    }
-
-    /// The clauses, borrowed. It takes no memory.
-    pub fn as_slice(&self) -> &[Clause]
-        ensures { result.now ≡ self.now }
-    {
-        self.items.as_slice()
-    }
-}
+/// Some clauses.
+pub type Clauses = List<Clause>;
 
 /// What an auxiliary predicate stands for.
 #[derive(Clone, Copy, Debug, PartialEq, Eq)]
@@ -257,56 +150,14 @@ pub enum GroupKind {
     Value,
 }
 
-/// Some kinds of groups, which contracts see as a list.
-#[derive(Debug, Drop)]
-pub struct Groups {
-    items: Vec<GroupKind>,
-}
-
-impl Model for Groups {
-    ghost use Rattle.std.specs.Prelude.{List};
-    ghost use Rattle.std.specs.Coded.{codes};
-    ghost use Rattle.le_terms.specs.Tree.{tree_code};
-    ghost use Rattle.le_terms.specs.declared.program.GroupKind.{GroupKind};
-
-    ghost Value = { List GroupKind };
-
-    ghost coded = { Prim.hlevel (codes, tree_code) };
-
-    ghost view = { λ l. l.items.items };
-}
-
-impl Groups {
-    /// These kinds. It takes no memory.
-    pub fn from_vec(items: Vec<GroupKind>) -> Self
-        ensures { result ≡ items.items }
-    {
-        Groups { items }
-    }
-
-    /// The kinds, in their own memory. It takes no memory.
-    pub fn into_vec(self) -> Vec<GroupKind>
-        ensures { result.items ≡ self }
-    {
-        self.items
-    }
-
-    /// The kinds, borrowed. It takes no memory.
-    pub fn as_slice(&self) -> &[GroupKind]
-        ensures { result.now ≡ self.now }
-    {
-        self.items.as_slice()
-    }
-
-    /// Equal kinds. The error is want of memory.
-    pub fn copy(&self, alloc: Global) -> Result<Self, AllocError>
-        ensures { IfOk result (λ groups. groups ≡ self.now) }
-    {
-        Ok(Groups {
-            items: Vec::from_slice(alloc, self.items.as_slice())?,
-        })
+impl Copied for GroupKind {
+    fn copy(&self, _alloc: Global) -> Result<Self, AllocError> {
+        Ok(*self)
     }
 }
+
+/// Some kinds of groups.
+pub type Groups = List<GroupKind>;
 
 /// A variable that a query asks for.
 #[derive(Debug, Drop)]
@@ -317,11 +168,8 @@ pub struct Asked {
     pub var: u32,
 }
 
-impl Asked {
-    /// An equal one. The error is want of memory.
-    pub fn copy(&self, alloc: Global) -> Result<Self, AllocError>
-        ensures { IfOk result (λ asked. asked ≡ self.now) }
-    {
+impl Copied for Asked {
+    fn copy(&self, alloc: Global) -> Result<Self, AllocError> {
         Ok(Asked {
             name: Text::of(alloc, self.name.as_str())?,
             var: self.var,
@@ -329,66 +177,8 @@ impl Asked {
     }
 }
 
-/// The variables that a query asks for, which contracts see as a list.
-#[derive(Debug, Drop)]
-pub struct AskedList {
-    items: Vec<Asked>,
-}
-
-impl Model for AskedList {
-    ghost use Rattle.std.specs.Prelude.{List};
-    ghost use Rattle.std.specs.Coded.{codes};
-    ghost use Rattle.le_terms.specs.Tree.{tree_code};
-    ghost use Rattle.le_terms.specs.declared.program.Asked.{Asked};
-
-    ghost Value = { List Asked };
-
-    ghost coded = { Prim.hlevel (codes, tree_code) };
-
-    ghost view = { λ l. l.items.items };
-}
-
-impl AskedList {
-    /// These variables. It takes no memory.
-    pub fn from_vec(items: Vec<Asked>) -> Self
-        ensures { result ≡ items.items }
-    {
-        AskedList { items }
-    }
-
-    /// The variables, in their own memory. It takes no memory.
-    pub fn into_vec(self) -> Vec<Asked>
-        ensures { result.items ≡ self }
-    {
-        self.items
-    }
-
-    /// The variables, borrowed. It takes no memory.
-    pub fn as_slice(&self) -> &[Asked]
-        ensures { result.now ≡ self.now }
-    {
-        self.items.as_slice()
-    }
-
-    /// Equal ones. The error is want of memory.
-    pub fn copy(&self, alloc: Global) -> Result<Self, AllocError>
-        ensures { IfOk result (λ asked. asked ≡ self.now) }
-    {
-        let items = copy_asked(alloc, self.items.as_slice())?;
-        Ok(AskedList { items })
-    }
-}
-
-// Equal variables.
-fn copy_asked(alloc: Global, asked: &[Asked]) -> Result<Vec<Asked>, AllocError>
-    ensures { IfOk result (λ copies. copies.items ≡ asked.now) }
-{
-    let mut copies = Vec::with_capacity(alloc, asked.len())?;
-    for one in asked {
-        copies.push(one.copy(alloc)?)?;
-    }
-    Ok(copies)
-}
+/// The variables that a query asks for.
+pub type AskedList = List<Asked>;
 
 /// A program with its query.
 #[derive(Debug, Drop)]

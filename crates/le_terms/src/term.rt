@@ -3,6 +3,7 @@ ghost use Rattle.le_terms.specs.Tree.{Tree, BeginsWith, IsTerm, IsInRange, IsLea
 ghost use Rattle.le_terms.specs.declared.term.Sym.TheVariants.{Cons};
 ghost use Rattle.le_terms.specs.Walks.{wanted_after};
 
+use le_base::{Copied, List};
 use std::alloc::{AllocError, Global};
 use std::marker::Model;
 
@@ -19,7 +20,7 @@ pub enum Sym {
     Var(u32),
     /// The empty list.
     Nil,
-    /// A cell of a list, whose head and tail stand behind it.
+    /// A cell of a list, whose head and tail stand after it.
     Cons,
 }
 
@@ -43,7 +44,7 @@ impl Model for Term {
 }
 
 impl Term {
-    /// The term of these symbols, which are one term in preorder. It takes no memory.
+    /// The term of these symbols, which are one term in preorder.
     pub fn from_syms(syms: Vec<Sym>) -> Self
         requires { IsTerm syms.items }
         ensures term { result ≡ tree_of syms.items }
@@ -52,7 +53,7 @@ impl Term {
         Term { syms }
     }
 
-    /// The term of one symbol that isn't a cell. The error is want of memory.
+    /// The term of one symbol that isn't a cell.
     pub fn leaf(alloc: Global, sym: Sym) -> Result<Self, AllocError>
         requires { IsLeaf sym }
         ensures term { IfOk result (λ term. term ≡ tree_of (sym ∷ [])) }
@@ -63,7 +64,7 @@ impl Term {
         Ok(Term { syms })
     }
 
-    /// The cell of a list with this head and this tail. The error is want of memory.
+    /// The cell of a list with this head and this tail.
     pub fn cons(alloc: Global, head: &Term, tail: &Term) -> Result<Self, AllocError>
         ensures { IfOk result (λ term. term ≡ cell head.now tail.now) }
     {
@@ -71,7 +72,7 @@ impl Term {
         Ok(Term { syms })
     }
 
-    /// The symbols in preorder. It takes no memory.
+    /// The symbols in preorder.
     pub fn as_syms(&self) -> &[Sym]
         ensures symbols { result.now ≡ flat self.now }
         ensures in_range { IsInRange self.now }
@@ -79,7 +80,7 @@ impl Term {
         self.syms.as_slice()
     }
 
-    /// The symbols in preorder, in the term's own memory. It takes no memory.
+    /// The symbols in preorder, as the term keeps them.
     pub fn into_syms(self) -> Vec<Sym>
         ensures symbols { result.items ≡ flat self }
         ensures in_range { IsInRange self }
@@ -87,7 +88,7 @@ impl Term {
         self.syms
     }
 
-    /// The first symbol. It takes no memory.
+    /// The first symbol.
     pub fn root(&self) -> Sym
         ensures first { result ≡ root self.now }
         ensures in_range { IsInRange self.now }
@@ -95,24 +96,23 @@ impl Term {
         self.syms[0]
     }
 
-    /// Whether two terms are equal. It takes no memory.
+    /// Whether two terms are equal.
     pub fn equals(&self, other: &Term) -> bool
         ensures { IsTrue result ↔ (self.now ≡ other.now) }
     {
         self.as_syms() == other.as_syms()
     }
+}
 
-    /// An equal term. The error is want of memory.
-    pub fn copy(&self, alloc: Global) -> Result<Self, AllocError>
-        ensures { IfOk result (λ term. term ≡ self.now) }
-    {
+impl Copied for Term {
+    fn copy(&self, alloc: Global) -> Result<Self, AllocError> {
         let syms = Vec::from_slice(alloc, self.syms.as_slice())?;
         Ok(Term { syms })
     }
 }
 
-/// The number of symbols of the term that some symbols in preorder begin with, whatever stands behind
-/// it. `None` comes exactly where no first part of them is a term. It takes no memory.
+/// The number of symbols of the term that some symbols in preorder begin with, whatever stands after
+/// it. `None` comes exactly where no first part of them is a term.
 pub fn first_term_len(syms: &[Sym]) -> Option<usize>
     ensures found { IfSome result (λ n. (tree : Tree) × BeginsWith tree syms.now × (n ≡ length (flat tree))) }
     ensures every { (tree : Tree) → BeginsWith tree syms.now → result ≡ Some (length (flat tree)) }
@@ -150,75 +150,11 @@ fn cell_syms(alloc: Global, head: &[Sym], tail: &[Sym]) -> Result<Vec<Sym>, Allo
     Ok(syms)
 }
 
-/// Some terms, which contracts see as a list.
-#[derive(Debug, Drop)]
-pub struct Terms {
-    items: Vec<Term>,
-}
-
-impl Model for Terms {
-    ghost use Rattle.std.specs.Prelude.{List};
-    ghost use Rattle.std.specs.Coded.{coded_list};
-    ghost use Rattle.le_terms.specs.Tree.{Tree, tree_code};
-
-    ghost Value = { List Tree };
-
-    ghost coded = { coded_list tree_code };
-
-    ghost view = { λ t. t.items.items };
-}
-
-impl Terms {
-    /// These terms. It takes no memory.
-    pub fn from_vec(items: Vec<Term>) -> Self
-        ensures { result ≡ items.items }
-    {
-        Terms { items }
-    }
-
-    /// The terms, in their own memory. It takes no memory.
-    pub fn into_vec(self) -> Vec<Term>
-        ensures { result.items ≡ self }
-    {
-        self.items
-    }
-
-    /// The terms, borrowed. It takes no memory.
-    pub fn as_slice(&self) -> &[Term]
-        ensures { result.now ≡ self.now }
-    {
-        self.items.as_slice()
-    }
-
-    /// Whether both are the same terms in the same order. It takes no memory.
-    pub fn equals(&self, other: &Terms) -> bool
-        ensures { IsTrue result ↔ (self.now ≡ other.now) }
-    {
-        same_terms(self.as_slice(), other.as_slice())
-    }
-
-    /// Equal terms. The error is want of memory.
-    pub fn copy(&self, alloc: Global) -> Result<Self, AllocError>
-        ensures { IfOk result (λ terms. terms ≡ self.now) }
-    {
-        let items = copy_terms(alloc, self.items.as_slice())?;
-        Ok(Terms { items })
-    }
-}
-
-// Equal terms.
-fn copy_terms(alloc: Global, terms: &[Term]) -> Result<Vec<Term>, AllocError>
-    ensures { IfOk result (λ copies. copies.items ≡ terms.now) }
-{
-    let mut copies = Vec::with_capacity(alloc, terms.len())?;
-    for term in terms {
-        copies.push(term.copy(alloc)?)?;
-    }
-    Ok(copies)
-}
+/// Some terms.
+pub type Terms = List<Term>;
 
 // Whether both are the same terms in the same order.
-fn same_terms(terms: &[Term], others: &[Term]) -> bool
+pub(crate) fn same_terms(terms: &[Term], others: &[Term]) -> bool
     ensures { IsTrue result ↔ (terms.now ≡ others.now) }
 {
     if terms.len() != others.len() {

@@ -5,7 +5,7 @@ use crate::{
     Asked, AskedList, Atom, Clause, ClauseKind, Clauses, Form, GroupKind, Groups, Literal,
     Literals, Names, Sym, Term, Terms, canonical, first_term_len, is_ground, vars_of,
 };
-use le_base::Text;
+use le_base::{Copied, Text};
 use std::alloc::{AllocError, Global};
 use std::process::Abort;
 use std::test::Fail;

@@ -7,7 +7,7 @@ use crate::{Sym, Term};
 use indexmap::IndexSet;
 use std::alloc::{AllocError, Global};
 
-/// The variables of a term, each once, in order of first occurrence. The error is want of memory.
+/// The variables of a term, each once, in order of first occurrence.
 pub fn vars_of(alloc: Global, term: &Term) -> Result<Vec<u32>, AllocError>
     ensures { IfOk result (λ vars. vars.items ≡ variables term.now) }
 {
@@ -16,7 +16,7 @@ pub fn vars_of(alloc: Global, term: &Term) -> Result<Vec<u32>, AllocError>
     Vec::from_slice(alloc, seen.as_slice())
 }
 
-/// Whether a term has no variable. It takes no memory.
+/// Whether a term has no variable.
 pub fn is_ground(term: &Term) -> bool
     ensures { IsTrue result ↔ IsGround term.now }
 {
@@ -24,7 +24,7 @@ pub fn is_ground(term: &Term) -> bool
 }
 
 /// The terms with their variables renumbered from 1, in order of first occurrence over all of them.
-/// They have fewer than 2^32 different variables. The error is want of memory.
+/// They have fewer than 2^32 different variables.
 pub fn canonical(alloc: Global, terms: &[Term]) -> Result<Vec<Term>, AllocError>
     requires { length (all_variables terms.now) < 2 ^ 32 }
     ensures { IfOk result (λ renumbered. renumbered.items ≡ canonical_of terms.now) }

@@ -1,5 +1,5 @@
 -- What `certify` writes is a bundle, and the check of it accepts its derivations.
-use Rattle.std.proofs.Common.{◌≡◌, ℕ, zero, suc, ◌+◌, ◌-◌, ◌≤◌, Bool, true, false, cond, nat_le, nat_lt, List, [], ◌∷◌, ◌++◌, length, map, take, Option, Some, Result, Ok, Err, inl, inr, codes, decimal, ⊎_elim, refl, subst, ap, sym, ◌∙◌, append_assoc, arith}
+use Rattle.std.proofs.Common.{◌≡◌, ℕ, zero, suc, ◌+◌, ◌-◌, ◌≤◌, Bool, true, false, cond, nat_le, nat_lt, List, [], ◌∷◌, ◌++◌, length, map, take, Option, Some, Result, Ok, Err, IfOk, inl, inr, codes, decimal, ⊎_elim, refl, subst, ap, sym, ◌∙◌, append_assoc, arith}
 use Rattle.std.proofs.lemmas.Bool.{cases_Bool, le-ltb, ltb-false}
 use Rattle.std.specs.List.{AllByRecursion}
 use Rattle.le_base.specs.declared.code.Code.TheVariants.{TooLong}
@@ -34,6 +34,9 @@ use Rattle.le_tool.specs.Job.{job_of}
 use Rattle.le_tool.specs.Report.{Question, question_of, answers_text, last_line, search_report, answers_report, query_report, document_report, command_report, report_by, report}
 use Rattle.le_tool.proofs.ChecksLemmas.{short_is}
 use Rattle.le_tool.proofs.LimitLemmas.{Within, limits_of}
+use Rattle.le_tool.proofs.PieceNames.{selected_named}
+use Rattle.le_tool.proofs.SentenceLemmas.{Comes, document-comes, selected-valid}
+use Rattle.le_tool.proofs.SpellingLemmas.{answers-spelled}
 use Rattle.le_tool.proofs.UnmarkedLemmas.{unmarked}
 
 -- the question of `certify`
@@ -49,6 +52,13 @@ within_limit n bytes whole is =
     ⊎_elim (λ (long : nat_lt most_bytes n ≡ true). absurd (cc (rw long at is)))
     (λ (within : nat_lt most_bytes n ≡ false). (ltb-false most_bytes n within, sym (ap (λ b. cond b (Err (refusal_at TooLong 0 0)) (whole_of_layout (layout_of bytes))) within) ∙ is))
     (cases_Bool (nat_lt most_bytes n))
+
+-- what it keeps
+document_is : (bytes : List ℕ) (whole : Whole) → document_of bytes ≡ Ok whole → Comes whole
+document_is bytes whole is = by (document_of bytes) is (document-comes bytes)
+  where
+    by : (r : Result Whole Refusal) → r ≡ Ok whole → IfOk r Comes → Comes whole
+    by r e h = subst (λ s. IfOk s Comes) e h
 
 -- it has a layout
 laid : (r : Result Layout Refusal) (whole : Whole) → whole_of_layout r ≡ Ok whole → (layout : Layout) × (r ≡ Ok layout)
@@ -126,14 +136,16 @@ bundle_is : (bytes query : List ℕ) (scenario : Option (List ℕ)) (budget most
     IsBundle (bundle_for bytes (certifying query scenario budget most) program)
 bundle_is bytes query scenario budget most whole program limited asked is =
     let leaves = answers_of program budget in
+    let comes : Comes whole = document_is bytes whole is.document in
+    let names = selected_named whole scenario query program comes.named is.selects in
     record {
       unmarked = document_unmarked bytes whole is.ended is.document;
-      named = is.named;
-      under = is.under;
+      named = names.0;
+      under = names.1;
       limited = (limited.0, omega (arith, limited.1));
       asked = asked;
       few = few_taken derivation_at most leaves;
-      spelled = all_taken (λ d. AreSpellable d.nodes) derivation_at most leaves is.spelled;
+      spelled = all_taken (λ d. AreSpellable d.nodes) derivation_at most leaves (answers-spelled whole comes scenario query program budget (omega (arith, limited.1)) is.selects is.names is.predicates);
       ended = ending_by (nat_le most (length leaves)) budget most (end_of program budget) is.ends;
     }
 
@@ -177,7 +189,7 @@ certified_is bytes query scenario budget most whole program limited asked is =
     let read : bundle_of text ≡ Ok b = ap bundle_of (certified_text bytes query scenario budget most whole program is) ∙ reads_back b (bundle_is bytes query scenario budget most whole program limited asked is) in
     let report : check_report text ≡ certificates_report whole program 0 ds =
     sym (short_is text is.short) ∙ ap bundle_report read ∙ ap (parts_report b) (part_is bytes whole is.ended is.document) ∙ ap (derivations_report whole ds) is.selects in
-    let accepts = all_taken (Accepts program) derivation_at most (answers_of program budget) (leaves_accepted program (answers_of program budget) (answers-accepted program budget is.valid)) in
+    let accepts = all_taken (Accepts program) derivation_at most (answers_of program budget) (leaves_accepted program (answers_of program budget) (answers-accepted program budget (selected-valid whole (document_is bytes whole is.document) scenario query program is.selects))) in
     record {
       bundle = read;
       checked = report;

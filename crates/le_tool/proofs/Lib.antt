@@ -2,9 +2,13 @@ pub mod AdmittedLemmas
 pub mod CertifiedLemmas
 pub mod ChecksLemmas
 pub mod DocumentLemmas
+pub mod HeadLemmas
 pub mod JobLemmas
 pub mod LimitLemmas
+pub mod NameLemmas
+pub mod PieceNames
 pub mod ReportLemmas
 pub mod SearchLemmas
 pub mod SentenceLemmas
+pub mod SpellingLemmas
 pub mod UnmarkedLemmas

@@ -5,10 +5,11 @@ use Rattle.std.proofs.lemmas.Str.{IsUtf8-from_is_utf8, is_utf8-from_IsUtf8}
 use Rattle.std.specs.Str.{is_utf8}
 use Rattle.std.specs.Str.Lossy.{utf8_valid_len}
 use Rattle.std.specs.Prelude.{take}
+use Rattle.std.proofs.lemmas.List.Elements.{All-from_recursion}
 use Rattle.std.specs.List.{AllByRecursion}
 use Rattle.le_base.specs.declared.code.Code.TheVariants.{TooLong}
 use Rattle.le_base.specs.declared.stop.Refusal.{Refusal}
-use Rattle.le_base.specs.declared.stop.Span.{Span}
+use Rattle.le_layout.specs.declared.span.Span.{Span}
 use Rattle.le_base.specs.Stop.{refusal_at}
 use Rattle.le_layout.specs.declared.layout.Layout.{Layout}
 use Rattle.le_layout.specs.Layout.{IsLayout, layout_of, place_in}
@@ -17,8 +18,9 @@ use Rattle.le_layout.proofs.ScanLemmas.{layout_of-utf8, layout_of-bad, layout_so
 use Rattle.le_docs.specs.declared.doc.Doc.{Doc}
 use Rattle.le_docs.specs.declared.doc.Section.{Section}
 use Rattle.le_docs.specs.declared.doc.SectionKind.TheVariants as kinds
-use Rattle.le_docs.specs.declared.faults.Fault.{Fault}
+use Rattle.le_layout.specs.declared.fault.Fault.{Fault}
 use Rattle.le_docs.specs.declared.headers.Head.{Head}
+use Rattle.le_docs.specs.Bounds.{IsSectionOver}
 use Rattle.le_docs.specs.Kinds.{same_kind}
 use Rattle.le_docs.specs.Faults.{least_from}
 use Rattle.le_docs.specs.Rule.{AreSentences, AreSectionsOf}
@@ -27,11 +29,15 @@ use Rattle.le_docs.specs.Sections.{all_sections, all_faults, decided, sections_o
 use Rattle.le_docs.proofs.GovernLemmas.{sections_are}
 use Rattle.le_templates.specs.declared.part.Template.{Template}
 use Rattle.le_templates.specs.Table.{declaration}
+use Rattle.le_terms.specs.Program.{IsProgram}
 use Rattle.le_terms.specs.declared.program.Program.{Program}
 use Rattle.le_clauses.specs.declared.whole.Piece.{Piece}
 use Rattle.le_clauses.specs.declared.whole.Whole.{Whole}
 use Rattle.le_clauses.specs.Pieces.{Read, declared_after, template_spans, users_of, pieces_of, whole_by, program_of}
 use Rattle.le_clauses.specs.Selection.{selected}
+use Rattle.le_clauses.specs.Validity.{IsWhole}
+use Rattle.le_clauses.proofs.Selected.{selected_in}
+use Rattle.le_clauses.proofs.ValidWhole.{valid_if_read}
 use Rattle.le_proofs.specs.Search.{answers_of}
 use Rattle.le_english.specs.Declarations.{AreDeclared}
 use Rattle.le_english.specs.Nodes.{AnswerReadsBack}
@@ -45,6 +51,9 @@ use Rattle.le_tool.specs.Job.{job_of}
 use Rattle.le_tool.specs.Documents.{most_bytes, whole_of_sections, whole_of_layout, document_by, document_of}
 use Rattle.le_tool.specs.Report.{Question, question_of}
 use Rattle.le_clauses.proofs.Sayable.{sayable}
+use Rattle.le_tool.proofs.HeadLemmas.{SectionFits, sections_fit}
+use Rattle.le_tool.proofs.LimitLemmas.{limits_of}
+use Rattle.le_tool.proofs.PieceNames.{IsNamedSection, IsNamedPiece, program_named}
 use Rattle.le_tool.specs.Sentences.{AreReadBack, CommandReadsBack, SentencesReadBack}
 
 -- the layout of a text that isn't too long is valid
@@ -110,7 +119,7 @@ are-declared layout valid before users (span ∷ spans) within declared e =
 doc-sections : (layout : Layout) (doc : Doc) → sections_of layout ≡ Ok doc → doc.sections ≡ all_sections layout
 doc-sections layout doc e = by (least_from None (all_faults layout)) e
   where
-    by : (o : Option Fault) → decided o (all_sections layout) ≡ Ok doc → doc.sections ≡ all_sections layout
+    by : (o : Option Fault) → decided layout o (all_sections layout) ≡ Ok doc → doc.sections ≡ all_sections layout
     by None found = let same : record { sections = all_sections layout } ≡ doc = cc found in ap (λ (d : Doc). d.sections) (sym same)
     by (Some fault) found = absurd (cc found)
 
@@ -133,27 +142,54 @@ whole-declared layout doc whole valid is e =
 
 -- ---- a document that is accepted
 
--- where a document comes from
-record Comes (whole : Whole) : Type 0 where
-  layout : Layout
-  doc : Doc
-  valid : IsLayout layout
-  comes : program_of layout doc ≡ Ok whole
-  declared : AreDeclared whole.templates
+-- where a document comes from, and what it keeps
+pub record Comes (whole : Whole) : Type 0 where
+  pub layout : Layout
+  pub doc : Doc
+  pub valid : IsLayout layout
+  pub comes : program_of layout doc ≡ Ok whole
+  pub declared : AreDeclared whole.templates
+  pub sound : IsWhole whole
+  pub named : AllByRecursion IsNamedPiece whole.pieces
+
+-- the sections of a document
+sections-fit : (layout : Layout) (doc : Doc) → IsLayout layout → sections_of layout ≡ Ok doc → AllByRecursion (SectionFits layout) doc.sections
+sections-fit layout doc valid is = subst (AllByRecursion (SectionFits layout)) (sym (doc-sections layout doc is)) (sections_fit layout valid)
+
+all-over : (layout : Layout) (sections : List Section) → AllByRecursion (SectionFits layout) sections → AllByRecursion (IsSectionOver (length layout.tokens)) sections
+all-over layout [] h = tt
+all-over layout (s ∷ sections) h = (h.0.over, all-over layout sections h.1)
+
+all-named : (layout : Layout) (sections : List Section) → AllByRecursion (SectionFits layout) sections → AllByRecursion IsNamedSection sections
+all-named layout [] h = tt
+all-named layout (s ∷ sections) h = (h.0.name, all-named layout sections h.1)
+
+given : {X : Type 0} (P : X → Type 0) (r : Result X Refusal) (x : X) → r ≡ Ok x → IfOk r P → P x
+given P r x e h = subst (λ s. IfOk s P) e h
 
 comes-sections : (layout : Layout) → IsLayout layout → (r : Result Doc Refusal) → sections_of layout ≡ r → IfOk (whole_of_sections layout r) Comes
 comes-sections layout valid (Err refusal) is = tt
 comes-sections layout valid (Ok doc) is = by (program_of layout doc) refl
   where
     by : (r : Result Whole Refusal) → program_of layout doc ≡ r → IfOk r Comes
-    by (Ok whole) e = record { layout = layout; doc = doc; valid = valid; comes = e; declared = whole-declared layout doc whole valid is e }
+    by (Ok whole) e =
+        let fits : AllByRecursion (SectionFits layout) doc.sections = sections-fit layout doc valid is in
+        record {
+          layout = layout;
+          doc = doc;
+          valid = valid;
+          comes = e;
+          declared = whole-declared layout doc whole valid is e;
+          sound = valid_if_read layout doc whole valid (All-from_recursion (IsSectionOver (length layout.tokens)) doc.sections (all-over layout doc.sections fits)) e;
+          named = given (λ w. AllByRecursion IsNamedPiece w.pieces) (program_of layout doc) whole e (program_named layout doc (all-named layout doc.sections fits));
+        }
     by (Err refusal) e = tt
 
 comes-layout : (bytes : List ℕ) → length bytes ≤ 2 ^ 28 → (r : Result Layout Refusal) → layout_of bytes ≡ r → IfOk (whole_of_layout r) Comes
 comes-layout bytes short (Err refusal) e = tt
 comes-layout bytes short (Ok layout) e = comes-sections layout (valid-layout bytes layout short e) (sections_of layout) refl
 
-document-comes : (bytes : List ℕ) → IfOk (document_of bytes) Comes
+pub document-comes : (bytes : List ℕ) → IfOk (document_of bytes) Comes
 unfolding document_by
 document-comes bytes = by (nat_lt most_bytes (length bytes)) refl
   where
@@ -163,27 +199,33 @@ document-comes bytes = by (nat_lt most_bytes (length bytes)) refl
 
 -- ---- what is shown reads back
 
-question-back : (q : Question) (found : Result Whole Refusal) → IfOk found Comes → AreReadBack q found
-question-back q (Err refusal) is = tt
-question-back q (Ok whole) is = by (selected whole q.scenario q.query) refl
+-- the program that is selected from a document is valid
+pub selected-valid : (whole : Whole) → Comes whole → (scenario : Option (List ℕ)) (query : List ℕ) (program : Program) → selected whole scenario query ≡ Ok program → IsProgram program
+selected-valid whole is scenario query program e = given IsProgram (selected whole scenario query) program e (selected_in whole scenario query is.sound)
+
+question-back : (q : Question) → q.budget ≤ 100000 → (found : Result Whole Refusal) → IfOk found Comes → AreReadBack q found
+question-back q low (Err refusal) is = tt
+question-back q low (Ok whole) is = by (selected whole q.scenario q.query) refl
   where
     by : (r : Result Program Refusal) → selected whole q.scenario q.query ≡ r → IfOk r (λ program. AllByRecursion (AnswerReadsBack whole.templates whole.names) (answers_of program q.budget))
-    by (Ok program) e = answers-back whole.templates whole.names program q.budget is.declared (sayable is.layout is.doc whole q.scenario q.query program is.valid is.comes e)
+    by (Ok program) e =
+        answers-back whole.templates whole.names program q.budget is.declared (selected-valid whole is q.scenario q.query program e)
+        (sayable is.layout is.doc whole q.scenario q.query program is.valid is.comes e) (omega (arith, low))
     by (Err refusal) e = tt
 
 sentences-back : (words : List (List ℕ)) (bytes : List ℕ) → SentencesReadBack words bytes
-sentences-back words bytes = by (job_of words)
+sentences-back words bytes = by (job_of words) refl
   where
-    by_command : (command : Command) (task : Task) → CommandReadsBack command words bytes task
-    by_command Answer task = question-back (question_of Values words task) (document_of bytes) (document-comes bytes)
-    by_command Explain task = question-back (question_of Reasons words task) (document_of bytes) (document-comes bytes)
-    by_command Certify task = question-back (question_of Derivations words task) (document_of bytes) (document-comes bytes)
-    by_command Clauses task = tt
-    by_command Check task = tt
+    by_command : (command : Command) (task : Task) → task.budget ≤ 100000 → CommandReadsBack command words bytes task
+    by_command Answer task low = question-back (question_of Values words task) low (document_of bytes) (document-comes bytes)
+    by_command Explain task low = question-back (question_of Reasons words task) low (document_of bytes) (document-comes bytes)
+    by_command Certify task low = question-back (question_of Derivations words task) low (document_of bytes) (document-comes bytes)
+    by_command Clauses task low = tt
+    by_command Check task low = tt
 
-    by : (o : Option Task) → IfSome o (λ task. CommandReadsBack task.command words bytes task)
-    by None = tt
-    by (Some task) = by_command task.command task
+    by : (o : Option Task) → job_of words ≡ o → IfSome o (λ task. CommandReadsBack task.command words bytes task)
+    by None job = tt
+    by (Some task) job = by_command task.command task (limits_of words task job).0.1
 
 -- so does what is shown of a document whose bytes are known
 pub known-back : (o : Option (List ℕ)) (words : List (List ℕ)) → IfSome o (λ bytes. SentencesReadBack words bytes)

@@ -55,7 +55,7 @@ none_with b (whole line ∷ lines) other h = (marker_head b line other, h)
 none_with b (cut line ∷ lines) other h = h
 
 -- bytes other than LF
-abbrev NoEnd : List ℕ → Type 0
+abbrev pub NoEnd : List ℕ → Type 0
 NoEnd [] = Unit {0}
 NoEnd (b ∷ bytes) = (b ≡ 10 → ⊥) × NoEnd bytes
 
@@ -76,10 +76,10 @@ no_end_from : (xs : List ℕ) → ((k : ℕ) → k < length xs → get_or xs k 0
 no_end_from [] h = tt
 no_end_from (b ∷ xs) h = (h 0 (omega arith), no_end_from xs (λ k (low : k < length xs). h (suc k) (omega (arith, low))))
 
-no_end : (c : ℕ) → (c ≡ 10 → ⊥) → NoEnd (encode_utf8 c)
+pub no_end : (c : ℕ) → (c ≡ 10 → ⊥) → NoEnd (encode_utf8 c)
 no_end c other = no_end_from (encode_utf8 c) (λ k low e. other (inside_one c [] (encode_utf8 c) k (sym (append-nil (encode_utf8 c))) low (omega (arith, e)) ∙ e))
 
-encoded : (c : ℕ) → 0 < length (encode_utf8 c)
+pub encoded : (c : ℕ) → 0 < length (encode_utf8 c)
 encoded c = omega (arith, length-encode c, (len_utf8_bounds c).0)
 
 first_is : (c : ℕ) → slice_index (encode_utf8 c) 0 ≡ 61 → c ≡ 61

@@ -1,8 +1,7 @@
 -- What `check` says of a bundle that `certify` wrote: this project's profile.
-use Rattle.std.specs.Prelude.{◌≡◌, ℕ, ◌≤◌, nat_le, if◌then◌else◌, true, List, length, map, take, Some, Ok, IfSome}
-use Rattle.std.specs.List.{AllByRecursion}
+use Rattle.std.specs.Prelude.{◌≡◌, ℕ, ◌+◌, ◌^◌, ◌≤◌, nat_le, if◌then◌else◌, true, List, length, map, take, Some, Ok}
+use Rattle.le_terms.specs.Program.{predefined_count}
 use Rattle.le_terms.specs.declared.program.Program.{Program}
-use Rattle.le_terms.specs.Program.{IsProgram}
 use Rattle.le_clauses.specs.declared.whole.Whole.{Whole}
 use Rattle.le_clauses.specs.Selection.{selected}
 use Rattle.le_proofs.specs.declared.derivation.Derivation.{Derivation}
@@ -10,11 +9,10 @@ use Rattle.le_proofs.specs.declared.next.Next.{Next}
 use Rattle.le_proofs.specs.Derivations.{certificate_of}
 use Rattle.le_proofs.specs.Proofs.{Leaf}
 use Rattle.le_proofs.specs.Search.{answers_of, end_of}
-use Rattle.le_prooftext.specs.Lines.{AreSpellable}
 use Rattle.le_bundle.specs.Bundle.{Bundle, bundle_of}
 use Rattle.le_bundle.specs.Endings.{end_words, stopped_words}
 use Rattle.le_bundle.specs.Head.{is_ended}
-use Rattle.le_bundle.specs.Written.{IsName, IsEnd}
+use Rattle.le_bundle.specs.Written.{IsEnd}
 use Rattle.le_tool.specs.declared.asking.Detail.TheVariants.{Derivations}
 use Rattle.le_tool.specs.declared.jobs.Command.TheVariants.{Certify}
 use Rattle.le_tool.specs.declared.jobs.Task.{Task}
@@ -52,15 +50,13 @@ bundle_for bytes q program = record {
   ending = ending_words q.budget q.most (length (answers_of program q.budget)) (end_of program q.budget);
 }
 
--- A question on a document of whole lines that is accepted with its names: the program is the one that they select, the derivations and the end that the search gives have a spelling, and the bundle isn't too long.
+-- A question on a document of whole lines that is accepted with its names: the program is the one that they select, there are at most 2^32 constants and predicates, the number of the line at which the search ends has 32 bits, and the bundle isn't too long.
 pub record IsCertified (bytes : List ℕ) (q : Question) (whole : Whole) (program : Program) : Type 0 where
   pub document : document_of bytes ≡ Ok whole
   pub selects : selected whole q.scenario q.query ≡ Ok program
-  pub valid : IsProgram program
   pub ended : is_ended bytes ≡ true
-  pub named : IsName q.query
-  pub under : IfSome q.scenario IsName
-  pub spelled : AllByRecursion (λ leaf. AreSpellable (certificate_of leaf).nodes) (answers_of program q.budget)
+  pub names : length whole.names ≤ 2 ^ 32
+  pub predicates : predefined_count + program.users + length program.groups ≤ 2 ^ 32
   pub ends : IsEnd (end_of program q.budget)
   pub short : length (certified bytes q).text ≤ most_bundle_bytes
 

@@ -14,7 +14,7 @@ use crate::answers::is_ended;
 use crate::documents::{document_by, too_long};
 use crate::report::{all_accepted, certificate, unfit};
 use crate::writes::{Failure, say, say_refusal};
-use le_base::{ReadStop, Sink, Source, Stop, read_all};
+use le_base::{MOST_TEXT_BYTES, ReadStop, Sink, Source, Stop, read_all};
 use le_bundle::{Parts, Unfit, open};
 use le_check::{Verdict, check};
 use le_clauses::{Whole, select};
@@ -24,9 +24,6 @@ use le_terms::Program;
 use std::alloc::{AllocError, Global};
 use std::marker::Brand;
 use std::sync::ledger::{Blank, Ledger};
-
-/// The most bytes of a bundle.
-const MOST_BUNDLE_BYTES: usize = 268_435_456;
 
 /// The verdict on a derivation of a program's query, whose steps are counted in a ledger of their own.
 fn counted_verdict<L: Ledger>(
@@ -235,7 +232,7 @@ pub fn run_check<S: Source, K: Sink>(
     ensures read_fault { IsErrOf result Failure.Read → Rose (S.faults input.old) (S.faults input.new) × Keeps (K.written out.old) (K.written out.new) }
     ensures write_fault { IsErrOf result Failure.Write → Rose (K.faults out.old) (K.faults out.new) }
 {
-    match read_all(alloc, input, MOST_BUNDLE_BYTES) {
+    match read_all(alloc, input, MOST_TEXT_BYTES) {
         Ok(bytes) => say_short(alloc, &bytes, out),
         Err(ReadStop::TooLong) => say_refusal(alloc, &too_long(alloc), out),
         Err(ReadStop::Fault) => Err(Failure::Read),

@@ -131,6 +131,9 @@ const MOODS: &str =
 const POOR: &str =
     "the templates are:\n    *a person* is poor,\n    *a person* is rich.\nthe knowledge base one includes:\n    a person is poor if it is not the case that the person is rich.\nscenario alice is:\n    Ann is rich.\nquery one is:\n    which person is poor.\nquery two is:\n    Ann is poor.\nquery three is:\n    Bob is poor.\n";
 
+const POOR_AND_MORE: &str =
+    "the templates are:\n    *a person* is poor,\n    *a person* is rich.\nthe knowledge base one includes:\n    a person is poor if it is not the case that the person is rich\n        and the person is poor.\nquery one is:\n    which person is poor.\n";
+
 const CAREFUL: &str =
     "the templates are:\n    *a person* is careful,\n    *a person* owns *a thing*,\n    *a thing* is insured.\nthe knowledge base one includes:\n    a person is careful\n    if for all cases in which\n            the person owns a thing\n        it is the case that\n            the thing is insured.\nscenario alice is:\n    Bob owns car one.\n    car one is insured.\nscenario two is:\n    Ann owns car two.\nquery one is:\n    Ann is careful.\nquery two is:\n    Bob is careful.\n";
 
@@ -138,7 +141,7 @@ const OWING: &str =
     "the templates are:\n    *a person* pays *an amount* for *a thing*,\n    *a person* owes *an amount*.\nthe knowledge base one includes:\n    a person owes a total\n    if the total is the sum of each amount such that\n        the person pays the amount for a thing.\nscenario alice is:\n    Bob pays 5 for the car.\n    Bob pays 5 for the boat.\nscenario two is:\n    Bob pays much for the car.\nquery one is:\n    Bob owes which total.\nquery two is:\n    Ann owes which total.\nquery three is:\n    which number is the number of each amount such that Bob pays the amount for a thing.\n";
 
 // A document, the query, the scenario, the report and its status.
-const DOCUMENTS: [(&str, &str, &str, &str, u8); 13] = [
+const DOCUMENTS: [(&str, &str, &str, &str, u8); 14] = [
     (
         CITIZENSHIP,
         "one",
@@ -151,6 +154,13 @@ const DOCUMENTS: [(&str, &str, &str, &str, u8); 13] = [
         "one",
         "alice",
         "refused 15 MixedConnectives at line 11 column 1\n",
+        1,
+    ),
+    (
+        POOR_AND_MORE,
+        "one",
+        "alice",
+        "refused 17 NegationScope at line 6 column 9\n",
         1,
     ),
     (POOR, "one", "alice", "floundered at line 5\n", 3),

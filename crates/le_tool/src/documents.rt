@@ -7,14 +7,11 @@ ghost use Rattle.le_tool.specs.Documents.{document_by, document_of};
 ghost use Rattle.le_tool.specs.Readings.{IsReading};
 
 use crate::writes::Failure;
-use le_base::{Code, ReadStop, Refusal, Source, Stop, read_all};
+use le_base::{Code, MOST_DOCUMENT_BYTES, ReadStop, Refusal, Source, Stop, read_all};
 use le_clauses::{Whole, program};
 use le_docs::sections;
 use le_layout::scan;
 use std::alloc::Global;
-
-/// The most bytes of a document.
-const MOST_BYTES: usize = 1_048_576;
 
 /// A document as it was read.
 #[derive(Drop)]
@@ -32,7 +29,7 @@ pub fn document_by(alloc: Global, count: usize, bytes: &[u8]) -> Result<Whole, S
     ensures exact { Gives (λ whole. whole) result (document_by count bytes.now) }
     ensures sound { IfOk result IsWhole }
 {
-    if count > MOST_BYTES {
+    if count > MOST_DOCUMENT_BYTES {
         return Err(Stop::Refused(too_long(alloc)));
     }
     let layout = scan(alloc, bytes)?;
@@ -74,7 +71,7 @@ pub fn read_document<S: Source>(alloc: Global, input: &mut S) -> Result<Reading,
     ensures no_write { IsErrOf result Failure.Write → ⊥ }
     ensures count { S.faults input.old ≤ S.faults input.new }
 {
-    match read_all(alloc, input, MOST_BYTES) {
+    match read_all(alloc, input, MOST_DOCUMENT_BYTES) {
         Ok(bytes) => read_bytes(alloc, bytes),
         Err(ReadStop::TooLong) => Ok(Reading {
             bytes: Vec::new(alloc),

@@ -109,6 +109,56 @@ fn full_table(alloc: Global, last: &str) -> Result<String, AllocError> {
     Ok(text)
 }
 
+// So many facts, each in a line of its own from the third on, and then this text.
+fn full_base(alloc: Global, facts: u32, last: &str) -> Result<String, AllocError> {
+    let mut text = String::from_str(
+        alloc,
+        "the templates are: *a thing* is new.\nthe knowledge base includes:\n",
+    )?;
+    for _ in 0..facts {
+        text.push_str("b is new.\n")?;
+    }
+    text.push_str(last)?;
+    Ok(text)
+}
+
+const ONE: &str = "answer 1\nyes\nstopped after 1 answers\n";
+
+// How many facts there are, what follows them, the report and its status. A rule with a disjunction of two has three
+// clauses, and a query with one has two.
+const FULL: [(u32, &str, &str, u8); 4] = [
+    (
+        49_997,
+        " c is new if b is new\n or b is new.\nquery one is: b is new.\n",
+        ONE,
+        0,
+    ),
+    (
+        49_998,
+        " c is new if b is new\n or b is new.\nquery one is: b is new.\n",
+        "refused 20 TooMany at line 50001 column 2\n",
+        1,
+    ),
+    (49_998, "query one is:\n b is new\n or c is new.\n", ONE, 0),
+    (
+        49_999,
+        "query one is:\n b is new\n or c is new.\n",
+        "refused 20 TooMany at line 50003 column 2\n",
+        1,
+    ),
+];
+
+#[test]
+fn full_documents(rt: HostRuntime) -> Result<(), Fail> {
+    let alloc = rt.alloc();
+    let words = ["answer", "--query", "one", "--answers", "1"];
+    for (facts, last, report, status) in FULL {
+        let text = full_base(alloc, facts, last)?;
+        assert!(rt; writes(alloc, &words, text.as_str(), report, status)?);
+    }
+    Ok(())
+}
+
 #[test]
 fn limits(rt: HostRuntime) -> Result<(), Fail> {
     let alloc = rt.alloc();

@@ -82,6 +82,52 @@ fn explanations(rt: HostRuntime) -> Result<(), Fail> {
     Ok(())
 }
 
+// Documents, the scenario, and a budget of as many selections as the whole search takes or one less, with the answers.
+const BUDGETS: [(&str, &str, &str, &str, u8); 6] = [
+    (CAREFUL, "one", "4", "answer 1\nyes\nno more answers\n", 0),
+    (CAREFUL, "one", "3", "budget spent after 3 selections\n", 4),
+    (
+        CITIZENSHIP,
+        "alice",
+        "7",
+        "answer 1\nperson: John\ndate: 2021-10-09\nno more answers\n",
+        0,
+    ),
+    (
+        CITIZENSHIP,
+        "alice",
+        "6",
+        "answer 1\nperson: John\ndate: 2021-10-09\nbudget spent after 6 selections\n",
+        4,
+    ),
+    (
+        OWING,
+        "one",
+        "4",
+        "answer 1\ntotal: 10\nno more answers\n",
+        0,
+    ),
+    (OWING, "one", "3", "budget spent after 3 selections\n", 4),
+];
+
+#[test]
+fn selections(rt: HostRuntime) -> Result<(), Fail> {
+    let alloc = rt.alloc();
+    for (text, scenario, budget, report, status) in BUDGETS {
+        let words = [
+            "answer",
+            "--query",
+            "one",
+            "--scenario",
+            scenario,
+            "--budget",
+            budget,
+        ];
+        assert!(rt; writes(alloc, &words, text, report, status)?);
+    }
+    Ok(())
+}
+
 // Whether `certify` writes a document and then these lines.
 fn certifies(alloc: Global, text: &str, scenario: &str, lines: &str) -> Result<bool, AllocError> {
     let report = format!(in alloc; "{text}{lines}")?;

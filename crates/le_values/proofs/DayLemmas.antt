@@ -17,7 +17,8 @@ use Rattle.jiff_core.proofs.SignedLemmas.{signed_arith}
 use Rattle.jiff_core.proofs.MarchLemmas.{day_count-early}
 use Rattle.jiff_core.proofs.CalendarLemmas.{days_from_civil-day_count, day_count-lt_year, day_count-later_year, day_count-lt_month, day_count-day, day_count-day_of_year}
 use Rattle.jiff_core.proofs.DateLemmas.{civil, epoch_day_range}
-use Rattle.le_values.specs.Days.{first_day, last_day, IsDay, is_day, is_date, is_date_word, word_year, word_month, word_day, day_of_date, day_of, last_begun, year_of, month_of, day_in_month, days_later}
+use Rattle.le_base.specs.Ranges.{IsDay}
+use Rattle.le_values.specs.Days.{first_day, last_day, is_day, is_date, is_date_word, word_year, word_month, word_day, day_of_date, day_of, last_begun, year_of, month_of, day_in_month, days_later}
 use Rattle.le_values.proofs.NumberLemmas.{numerals}
 
 -- a power of ten with at most three zeros
@@ -47,7 +48,7 @@ int_le_holds a b h = grind (arith, ints)
 pub int_le_fails : (a b : ℤ) → b <ℤ a → int_le a b ≡ false
 int_le_fails a b h = grind (arith, ints)
 
--- the last that has begun is k, where k has begun and none behind it has
+-- the last that has begun is k, where k has begun and none after it has
 pub last_begun-is : (start : ℕ → ℤ) (n k : ℕ) (day : ℤ) → 1 ≤ k → k ≤ n → start k ≤ℤ day → ((j : ℕ) → k < j → j ≤ n → day <ℤ start j) → last_begun start n day ≡ k
 unfolding last_begun
 last_begun-is start zero k day low high begun later = absurd (omega arith)

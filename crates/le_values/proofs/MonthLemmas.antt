@@ -7,7 +7,8 @@ use Rattle.jiff_core.specs.Date.{epoch_day}
 use Rattle.jiff_core.proofs.SignedLemmas.{signed_arith}
 use Rattle.jiff_span.specs.Months.{month_number, shifted_year, add_months, IsShiftable}
 use Rattle.jiff_span.proofs.MonthLemmas.{shift_parts}
-use Rattle.le_values.specs.Days.{IsDay, month_count, months_later}
+use Rattle.le_base.specs.Ranges.{IsDay}
+use Rattle.le_values.specs.Days.{month_count, months_later}
 use Rattle.le_values.proofs.DayLemmas.{date_parts, int_le_holds, int_le_fails}
 
 month_count-is : (d : Date) (day : ℤ) → epoch_day d ≡ day → IsDay day → pos (month_count day) ≡ month_number d

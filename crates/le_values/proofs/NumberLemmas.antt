@@ -8,7 +8,8 @@ use Rattle.std.specs.Char.{is_ascii_digit}
 use Rattle.std.specs.Fmt.{decimal, signed_decimal}
 use Rattle.std.specs.List.{list_all}
 use Rattle.std.specs.Str.Parse.{digits_value, ParsesSigned}
-use Rattle.le_values.specs.Numbers.{greatest_number, IsNumber, is_number, has_minus, is_number_word, word_value, number_of}
+use Rattle.le_base.specs.Ranges.{IsNumber}
+use Rattle.le_values.specs.Numbers.{greatest_number, is_number, has_minus, is_number_word, word_value, number_of}
 
 -- a list of digits, in the words of `parse`
 pub numerals : IsNumeralModel (λ ds. list_all is_ascii_digit ds ≡ true) (digits_value 10)

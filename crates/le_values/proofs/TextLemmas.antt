@@ -10,7 +10,8 @@ use Rattle.jiff_core.specs.Date.{epoch_day, IsYmd}
 use Rattle.jiff_core.proofs.SignedLemmas.{signed_arith}
 use Rattle.jiff_core.proofs.CalendarLemmas.{days_in_month_bounds}
 use Rattle.jiff_fmt.specs.Text.{pad2, pad4, date_text}
-use Rattle.le_values.specs.Days.{IsDay, is_date_word, word_year, word_month, word_day, day_of_date, day_of, year_of, month_of, day_in_month, day_text}
+use Rattle.le_base.specs.Ranges.{IsDay}
+use Rattle.le_values.specs.Days.{is_date_word, word_year, word_month, word_day, day_of_date, day_of, year_of, month_of, day_in_month, day_text}
 use Rattle.le_values.proofs.DayLemmas.{date_parts, day_of_date-is, day_of-word, year_in_years}
 
 digit-is : (n : ℕ) → n < 10 → is_ascii_digit (48 + n) ≡ true

@@ -15,10 +15,6 @@ first_day = neg_ℤ (pos 719_162)
 abbrev pub last_day : ℤ
 last_day = pos 2_932_896
 
--- the day number of a date of the years 1 to 9999
-abbrev pub IsDay : ℤ → Type 0
-IsDay day = (first_day ≤ℤ day) × (day ≤ℤ last_day)
-
 -- whether it is one
 abbrev pub is_day : ℤ → Bool
 is_day day = int_le first_day day && int_le day last_day

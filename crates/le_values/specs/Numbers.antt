@@ -8,10 +8,6 @@ use Rattle.std.specs.Str.Parse.{digits_value}
 abbrev pub greatest_number : ℕ
 greatest_number = 10 ^ 18
 
--- a number that the language has: from -10^18 to 10^18
-abbrev pub IsNumber : ℤ → Type 0
-IsNumber n = (neg_ℤ (pos greatest_number) ≤ℤ n) × (n ≤ℤ pos greatest_number)
-
 -- whether it is one
 abbrev pub is_number : ℤ → Bool
 is_number n = nat_le (unsigned_abs n) greatest_number
@@ -20,7 +16,7 @@ is_number n = nat_le (unsigned_abs n) greatest_number
 abbrev pub has_minus : List ℕ → Bool
 has_minus word = slice_index word 0 == 45
 
--- the word behind its minus sign, where it has one
+-- the word after its minus sign, where it has one
 abbrev pub after_minus : List ℕ → List ℕ
 after_minus word = if has_minus word then drop 1 word else word
 

@@ -3,23 +3,17 @@ ghost use Rattle.std.specs.Char.{is_ascii_digit};
 ghost use Rattle.std.specs.List.{list_all};
 ghost use Rattle.std.specs.Str.Parse.{digits_value};
 ghost use Rattle.jiff_core.specs.Date.{epoch_day};
-ghost use Rattle.le_values.specs.Days.{IsDay, is_date_word, day_of_date, day_of, year_of, month_of, day_in_month, day_text, days_later};
+ghost use Rattle.le_base.specs.Ranges.{IsDay};
+ghost use Rattle.le_values.specs.Days.{is_date_word, day_of_date, day_of, year_of, month_of, day_in_month, day_text, days_later};
 
 use crate::number::is_digits;
 use jiff::civil;
 use jiff_core::civil::Date;
-use le_base::Text;
+use le_base::{FIRST_DAY, LAST_DAY, Text};
 use std::alloc::{AllocError, Global};
 
-/// The day number of 0001-01-01.
-const FIRST_DAY: i64 = -719_162;
-
-/// The day number of 9999-12-31.
-const LAST_DAY: i64 = 2_932_896;
-
 /// The day number of the date that a word is: four digits, `-`, two digits, `-`, two digits. `None`
-/// comes exactly where the word isn't of that form, or is no date of the years 0001 to 9999. It takes
-/// no memory.
+/// comes exactly where the word isn't of that form, or is no date of the years 0001 to 9999.
 pub fn day_of(word: &str) -> Option<i32>
     ensures value { result ≡ day_of word.now }
     ensures in_years { IfSome result IsDay }
@@ -94,7 +88,7 @@ pub(crate) fn date_at(day: i32) -> Date
     Date::from_unix_epoch_day(i64::from(day)).unwrap()
 }
 
-/// The date of a day as `YYYY-MM-DD`, with leading zeros. The error is want of memory.
+/// The date of a day as `YYYY-MM-DD`, with leading zeros.
 pub fn write_day(alloc: Global, day: i32) -> Result<Text, AllocError>
     requires { IsDay day }
     ensures text { IfOk result (λ text. text ≡ day_text day) }
@@ -106,7 +100,7 @@ pub fn write_day(alloc: Global, day: i32) -> Result<Text, AllocError>
 }
 
 /// The day `n` days later, or earlier for a negative `n`. `None` comes exactly where that is outside
-/// the years 0001 to 9999. It takes no memory.
+/// the years 0001 to 9999.
 pub fn add_days(day: i32, n: i64) -> Option<i32>
     ensures value { result ≡ days_later day n }
     ensures in_years { IfSome result IsDay }
@@ -118,7 +112,7 @@ pub fn add_days(day: i32, n: i64) -> Option<i32>
     Some(sum as i32)
 }
 
-/// The days from one day to another: `to` minus `from`. It takes no memory.
+/// The days from one day to another: `to` minus `from`.
 pub fn days_between(from: i32, to: i32) -> i64
     ensures { result ≡ to -ℤ from }
 {

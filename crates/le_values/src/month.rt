@@ -1,5 +1,6 @@
 ghost use Rattle.std.specs.Prelude.{◌≡◌, IfSome};
-ghost use Rattle.le_values.specs.Days.{IsDay, months_later};
+ghost use Rattle.le_base.specs.Ranges.{IsDay};
+ghost use Rattle.le_values.specs.Days.{months_later};
 
 use crate::day::date_at;
 use jiff_span::date;
@@ -8,7 +9,7 @@ use jiff_span::date;
 const MOST_MONTHS: i64 = 120_000;
 
 /// The same day `n` months later, or earlier for a negative `n`, with the day cut to the length of
-/// that month. `None` comes exactly where its year is outside 1 to 9999. It takes no memory.
+/// that month. `None` comes exactly where its year is outside 1 to 9999.
 pub fn add_months(day: i32, n: i64) -> Option<i32>
     requires { IsDay day }
     ensures value { result ≡ months_later day n }

@@ -3,7 +3,7 @@ use Rattle.le_terms.specs.Tree.{tree_of, flat}
 use Rattle.le_builtins.specs.Lists.{list_length, last_tail}
 use Rattle.le_builtins.proofs.lists.list_end.Given as goal
 
--- what is left is the list behind the items so far
+-- what is left is the list after the items so far
 abbrev pub invariant-loop-rest : goal.invariant-loop-rest
 invariant-loop-rest l = record {
   whole : flat (tree_of l.rest) ≡ l.rest;

@@ -2,7 +2,7 @@ use Rattle.std.proofs.Common.{◌≡◌, ◌≤◌, drop, length}
 use Rattle.le_proofs.specs.Replay.{behind}
 use Rattle.le_check.proofs.parts.place_after.Given as goal
 
--- behind the parts that are left is what is behind all
+-- after the parts that are left is what is after all
 abbrev pub invariant-loop-left : goal.invariant-loop-left
 invariant-loop-left l = record {
   low : l.from ≤ l.at;

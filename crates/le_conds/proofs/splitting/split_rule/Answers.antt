@@ -1,6 +1,6 @@
 use Rattle.std.proofs.Common.{◌+◌, ◌++◌, ◌∙◌, sym, ap, arith, length, Some, None, Ok, Err, List, Option}
 use Rattle.le_conds.specs.declared.cond.Cond.{Cond}
-use Rattle.le_conds.specs.declared.faults.Fault.{Fault}
+use Rattle.le_layout.specs.declared.fault.Fault.{Fault}
 use Rattle.le_conds.specs.Items.{span}
 use Rattle.le_conds.specs.Faults.{conclusion_faults, condition_faults, least_onto, least_of}
 use Rattle.le_conds.specs.Rules.{unless_fault, conditions_among, conds_of}

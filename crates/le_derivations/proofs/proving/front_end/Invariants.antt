@@ -2,7 +2,7 @@ use Rattle.std.proofs.Common.{◌≡◌, ◌≤◌, take, length, reverse}
 use Rattle.le_proofs.specs.Replay.{behind}
 use Rattle.le_derivations.proofs.proving.front_end.Given as goal
 
--- what is behind the parts that are left, among the nodes that are left, is what is behind all of them
+-- what is after the parts that are left, among the nodes that are left, is what is after all of them
 abbrev pub invariant-loop-parts : goal.invariant-loop-parts
 invariant-loop-parts l = record {
   inside : l.at ≤ length l.nodes;

@@ -26,4 +26,4 @@ returns c =
     let all = all_least l heads secs c.in_ok-found.found.least c.in_ok-divided.divided.least c.in_ok-least.least c.in_ok-least-2.least
     (c.as_slice.ensures.value ∙ c.in_ok-found.ensures.heads) (c.as_slice-sections.ensures.value ∙ c.in_ok-divided.ensures.sections)
     c.in_ok-found.ensures.least c.in_ok-divided.ensures.least c.in_ok-least.ensures c.in_ok-least-2.ensures in
-    record { exact = decided_as l (Some c.in-Some.fault) c.in_ok-least-2.least secs all c.in-Some.is ∙ ap Err (sym c.at.ensures); within = tt }
+    record { exact = decided_as l (Some c.in-Some.fault) c.in_ok-least-2.least secs all c.in-Some.is ∙ ap Err (sym c.refusal.ensures); within = tt }

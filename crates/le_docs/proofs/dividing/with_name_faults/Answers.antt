@@ -36,7 +36,7 @@ loop-section-preserved c =
     let least : c.if-not-branch.least ≡ least_from c.loop-section.least (name_faults l c.args.kind (take i ss) s) =
     elim c.if-not-branch.branch [
       | then-not-branch w ↦
-          w.least-is ∙ w.sooner-least.ensures ∙ ap (sooner c.loop-section.least) w.fault_at.ensures
+          w.least-is ∙ w.sooner-least.ensures ∙ ap (sooner c.loop-section.least) w.at.ensures
           ∙ ap (least_from c.loop-section.least) (sym (name_fault_is l c.args.kind (take i ss) s true true same (sym known ∙ flip _ _ false c.in_ok-insert.ensures.added w.if-not-branch.true)))
       | else-not-branch w ↦
           w.least-is

@@ -39,7 +39,7 @@ loop-at-preserved c =
     let closes = c.in-Some.ensures in (
       omega (arith, closes.0),
       omega (arith, closes.1),
-      walk_slot c.args.layout.now c.loop-at.parts.items _ c.in_ok-phrase.field-0 c.loop-at.at c.in-Some.end c.args.span.to c.loop-at-test.true c.requires.within word star closes.2 c.in_ok-phrase.ensures c.in_ok-push-2.ensures.items ∙ c.loop-at.invariant.2,
+      walk_slot c.args.layout.now c.loop-at.parts.items _ c.in_ok-spaced.field-0 c.loop-at.at c.in-Some.end c.args.span.to c.loop-at-test.true c.requires.within word star closes.2 c.in_ok-spaced.ensures c.in_ok-push-2.ensures.items ∙ c.loop-at.invariant.2,
     )
 
 pub returns : goal.returns

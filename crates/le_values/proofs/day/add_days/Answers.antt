@@ -1,7 +1,7 @@
 use Rattle.std.proofs.Common.{◌≡◌, inl, inr, ◌+ℤ◌, FitsSigned, w32, w64, ◌∙◌, ap, Some, arith}
 use Rattle.std.proofs.lemmas.Int.{to_z-of_z}
 use Rattle.jiff_core.proofs.SignedLemmas.{signed_arith, signed_casts}
-use Rattle.le_values.specs.Days.{IsDay}
+use Rattle.le_base.specs.Ranges.{IsDay}
 use Rattle.le_values.proofs.DayLemmas.{days_later-outside, days_later-inside, overflow_outside}
 use Rattle.le_values.proofs.day.add_days.Goals as goal
 use Rattle.le_values.proofs.day.add_days.Goals.{then-sum-lt-FIRST_DAY-via-then-sum-lt-FIRST_DAY, then-sum-lt-FIRST_DAY-via-else-sum-lt-FIRST_DAY+then-sum-gt-LAST_DAY}
