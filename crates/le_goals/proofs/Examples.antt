@@ -1,17 +1,19 @@
 -- Small goals in cells, worked out.
 use Rattle.std.proofs.Common.{◌≡◌, true, pos, List, [], ◌∷◌, refl}
 use Rattle.le_base.specs.declared.stop.FoldKind.TheVariants.{Sum}
-use Rattle.le_terms.specs.Tree.{Tree, variable, number}
+use Rattle.le_terms.specs.Tree.{Tree, variable, number, nil}
+use Rattle.le_terms.specs.Program.{form_atom}
 use Rattle.le_terms.specs.declared.program.Form.TheVariants.{Pos, Gather}
 use Rattle.le_terms.specs.declared.program.Literal.{Literal}
 use Rattle.le_terms.specs.declared.program.Program.{Program}
+use Rattle.le_index.specs.Keys.{key_of}
 use Rattle.le_store.specs.Shown as store
 use Rattle.le_proofs.specs.Goals.{root_of}
 use Rattle.le_goals.specs.declared.frames.Source.TheVariants.{Query}
 use Rattle.le_goals.specs.declared.frames.Answers.TheVariants.{Value}
 use Rattle.le_goals.specs.declared.frames.Frame.TheVariants.{Empty, Before}
 use Rattle.le_goals.specs.Frames.{goals_of}
-use Rattle.le_goals.specs.Shown.{goal_at}
+use Rattle.le_goals.specs.Shown.{goal_at, literal_of, argument_at, result_of}
 use Rattle.le_goals.specs.State.{snapshot_of, query_frames}
 
 -- the literal of predicate 20 with this argument
@@ -43,3 +45,15 @@ bound = refl
 alone_goal : goal_at (snapshot_of (small (gather ∷ [])) five (Empty (Value Query 0 0) ∷ Before (record { source = Query; base = 0; from = 0; to = 1; alone = true }) 0 ∷ [])) 1
     ≡ record { next = 2; literals = record { line = 8; form = Pos (record { pred = 20; args = number (pos 5) ∷ [] }) } ∷ []; terms = number (pos 5) ∷ [] }
 alone_goal = refl
+
+-- an argument that isn't there is the empty list
+missing : argument_at (snapshot_of (small (atom (variable 0) ∷ [])) five (query_frames 1)) 1 0 1 ≡ nil
+missing = refl
+
+-- the result of a gather as the cells show it
+gathered : result_of (literal_of (goal_at (snapshot_of (small (gather ∷ [])) five (query_frames 1)) 1) 0).form ≡ variable 1
+gathered = refl
+
+-- the key of an atom whose first argument is a bound variable
+bound_key : key_of (form_atom (literal_of (goal_at (snapshot_of (small (atom (variable 0) ∷ [])) five (query_frames 1)) 1) 0).form) ≡ 19
+bound_key = refl

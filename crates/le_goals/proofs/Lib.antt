@@ -15,3 +15,9 @@ pub mod Resolvents
 pub mod Shapes
 pub mod Atoms
 pub mod Walks
+pub mod Symbols
+pub mod ReadLiterals
+pub mod Equated
+pub mod LastFrames
+pub mod Roots
+pub mod VariableFree

@@ -1,4 +1,8 @@
+pub mod Copies
+pub mod Ends
+pub mod Equations
 pub mod Frames
+pub mod NoVariables
 pub mod Parting
 pub mod Shown
 pub mod State

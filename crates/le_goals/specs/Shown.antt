@@ -1,5 +1,6 @@
 -- What contracts see of goals in cells: the goals now, and what they were at each mark. Goals are those of Lloyd, Foundations of Logic Programming, chapter 2, section 7.
-use Rattle.std.specs.Prelude.{◌≡◌, ℕ, ◌+◌, ◌<◌, List, [], ◌∷◌, ◌++◌, length, map, get_or, slice_get, take, drop, Option, Some, None}
+use Rattle.std.specs.Prelude.{◌≡◌, ℕ, ◌+◌, ◌<◌, Bool, true, false, List, [], ◌∷◌, ◌++◌, length, map, get_or, slice_get, take, drop, Option, Some, None}
+use Rattle.le_base.specs.Ranges.{IsNumber, IsDay}
 use Rattle.le_terms.specs.Tree.{Tree}
 use Rattle.le_terms.specs.Program.{form_atom}
 use Rattle.le_terms.specs.declared.program.Clause.{Clause}
@@ -7,7 +8,11 @@ use Rattle.le_terms.specs.declared.program.Form.{Form}
 use Rattle.le_terms.specs.declared.program.Form.TheVariants.{Pos, Neg, Calc, Gather}
 use Rattle.le_terms.specs.declared.program.Literal.{Literal}
 use Rattle.le_terms.specs.declared.program.Program.{Program}
+use Rattle.le_terms.specs.declared.term.Sym.{Sym}
+use Rattle.le_terms.specs.declared.term.Sym.TheVariants.{Var, Name, Num, Day, Nil, Cons}
 use Rattle.le_subst.specs.Unifiers.{Bindings, value_at}
+use Rattle.le_subst.specs.Solution.{solve_of}
+use Rattle.le_builtins.specs.Compute.{argument}
 use Rattle.le_goals.specs.declared.reading.Kind.{Kind}
 use Rattle.le_goals.specs.declared.reading.Kind.TheVariants as kinds
 use Rattle.le_goals.specs.declared.reading.Shape.{Shape}
@@ -101,3 +106,28 @@ kind_of (Gather fold result value atom) = kinds.Gather fold
 -- a literal without its terms
 abbrev pub shape_of : Literal → Shape
 shape_of literal = record { kind = kind_of literal.form; line = literal.line; pred = (form_atom literal.form).pred }
+
+-- an argument of the atom of the literal at a place of a goal
+abbrev pub argument_at : Snapshot → ℕ → ℕ → ℕ → Tree
+argument_at snapshot number place n = argument (form_atom (literal_of (goal_at snapshot number) place).form).args n
+
+-- the result of a literal: the first argument of a computed one, and the result of a gather
+abbrev pub result_of : Form → Tree
+result_of (Pos atom) = argument atom.args 0
+result_of (Neg atom) = argument atom.args 0
+result_of (Calc atom) = argument atom.args 0
+result_of (Gather fold result value atom) = result
+
+-- the most general unifier of two terms, under which all goals are then; or they have none
+abbrev pub Equates : Snapshot → Snapshot → Tree → Tree → Bool → Type 0
+Equates old new left right false = solve_of ((left, right) ∷ []) ≡ None
+Equates old new left right true = (bindings : Bindings) × (solve_of ((left, right) ∷ []) ≡ Some bindings) × KeepsUnder bindings old.next old new
+
+-- a symbol is a whole term without a variable: its number or its day is one that a term may have
+abbrev pub IsWholeSymbol : Sym → Type 0
+IsWholeSymbol (Name n) = Unit {0}
+IsWholeSymbol (Num z) = IsNumber z
+IsWholeSymbol (Day d) = IsDay d
+IsWholeSymbol Nil = Unit {0}
+IsWholeSymbol Cons = ⊥
+IsWholeSymbol (Var v) = ⊥

@@ -5,6 +5,12 @@ ghost use Rattle.le_goals.specs.Shown.{goal_at, picked_at, sub_goal_at, shape_of
 ghost use Rattle.le_terms.specs.declared.program.Clause.{Clause as AnyClause};
 ghost use Rattle.le_goals.specs.State.{query_frames};
 
+mod answers;
+mod equating;
+mod grounding;
+mod keys;
+mod reading;
+
 use crate::frames::{Answers, Frame, Kept, Part, Source};
 use crate::parting::put;
 use crate::reading::{Shape, shape_at};

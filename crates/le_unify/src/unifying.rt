@@ -133,10 +133,16 @@ fn pair_step(store: &Store, left: usize, right: usize) -> PairStep
     match first {
         Look::Unbound(var) => match second {
             Look::Unbound(other) => two_variables(var, other),
-            _ => PairStep::Against { var, to: right },
+            _ => PairStep::Against {
+                var,
+                to: store.follow(right),
+            },
         },
         _ => match second {
-            Look::Unbound(var) => PairStep::Against { var, to: left },
+            Look::Unbound(var) => PairStep::Against {
+                var,
+                to: store.follow(left),
+            },
             _ => rigid_step(first, second),
         },
     }

@@ -1,4 +1,4 @@
-ghost use Rattle.std.specs.Prelude.{◌≡◌, ℕ};
+ghost use Rattle.std.specs.Prelude.{◌≡◌, ℕ, ◌+◌};
 ghost use Rattle.le_terms.specs.Tree.{variable};
 ghost use Rattle.le_store.specs.Shown.{term_of, IsThere, IsUnbound, Shows, AreRising};
 
@@ -6,6 +6,15 @@ use super::{Look, Store};
 use crate::cells::Cell;
 
 impl Store {
+    /// The cell that stands so many cells after another one.
+    pub fn cell_after(&self, base: usize, count: u32) -> usize
+        requires { IsThere self.now (base + count) }
+        ensures { result ≡ base + count }
+    {
+        let _ = &self.cells;
+        base + count as usize
+    }
+
     /// The end of the chain of bindings: a cell of the same term, which is a variable's own cell where
     /// the term is a variable.
     pub fn follow(&self, cell: usize) -> usize

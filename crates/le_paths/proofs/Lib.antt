@@ -1,0 +1,3 @@
+mod Examples
+pub mod Leads
+pub mod Leaves
