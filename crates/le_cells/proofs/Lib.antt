@@ -1,0 +1,15 @@
+pub mod Advancing
+pub mod Becoming
+pub mod ChildWalks
+pub mod Children
+pub mod Gathers
+pub mod Passing
+pub mod Picking
+pub mod Resting
+pub mod Same
+pub mod SelectedAt
+pub mod Trying
+pub mod Turning
+pub mod Undone
+pub mod UnderWay
+pub mod Walking
